@@ -10,7 +10,7 @@ import unittest
 from testing import TOP, datagram
 
 import aliases  # noqa: I001
-from bindings import ACK, FIN, LONG_TIMEOUT, SECOND, SYN, TCP, UDP
+from rendapil.bindings import ACK, FIN, LONG_TIMEOUT, SECOND, SYN, TCP, UDP
 from datagrams import tcp
 
 FAR = "203.0.113.9"

@@ -59,7 +59,7 @@ class Installed(unittest.TestCase):
         for _ in range(2):
             self.assertEqual(said("env", f"PROGRAM={PROGRAM}", f"{TOP}/packaging/install", prefix), (0, ""))
         self.works(f"{prefix}/bin/rendapil")
-        os.mkdir(f"{prefix}/share/rendapil/tools/__pycache__")
+        os.makedirs(f"{prefix}/share/rendapil/python/rendapil/__pycache__", exist_ok=True)
         self.assertEqual(said(f"{TOP}/packaging/install", "--remove", prefix), (0, ""))
         self.assertEqual(below(prefix), before)
         self.assertEqual(said(f"{TOP}/packaging/install", "--remove", prefix)[0], 1)

@@ -6,8 +6,11 @@ import subprocess
 import tempfile
 import time
 import unittest
+from pathlib import Path
 
-from testing import INPUTS, OUTPUTS, RIGHT, TOOLS, TOP, said
+from testing import INPUTS, OUTPUTS, RIGHT, TOP, said
+
+from rendapil import program
 
 
 RT = """#!/bin/sh
@@ -33,19 +36,17 @@ class Script(unittest.TestCase):
     marks."""
 
     def setUp(self) -> None:
-        """A folder with the script and the stand-ins."""
+        """A folder with the command and the stand-ins."""
         room = tempfile.TemporaryDirectory()
         self.addCleanup(room.cleanup)
         self.room = room.name
         self.top = f"{self.room}/top"
         self.program, self.source = f"{self.top}/crates/gateway_program/out/gateway_program", f"{self.top}/crates/gateway_program/src/main.rt"
-        for name in ("top/tools", "top/docs", "bin", "top/crates/gateway_program/out", "top/crates/gateway_program/src"):
+        for name in ("top/tools", "top/docs", "top/python", "bin", "top/crates/gateway_program/out", "top/crates/gateway_program/src"):
             os.makedirs(f"{self.room}/{name}")
-        for name in ("rendapil", "VERSION", "docs/GATE.md", "tools/proved_program"):
+        for name in ("rendapil", "VERSION", "docs/GATE.md"):
             shutil.copy(f"{TOP}/{name}", f"{self.top}/{name}")
-        for name in os.listdir(TOOLS):
-            if name not in ("quick", "proved_program"):
-                os.symlink(f"{TOOLS}/{name}", f"{self.top}/tools/{name}")
+        shutil.copytree(f"{TOP}/python/rendapil", f"{self.top}/python/rendapil", ignore=shutil.ignore_patterns("__pycache__"))
         self.write(f"{self.top}/crates.txt", "gateway_program: std\n")
         self.write(self.source, "fn main() {}\n")
         self.write(f"{self.room}/bin/rt", RT.format(room=self.room, top=self.top))
@@ -55,12 +56,8 @@ class Script(unittest.TestCase):
 
     def note(self) -> None:
         """Notes that the program is of the code that is there."""
-        text = self.shell('entries "$0" "$(code_of "$1")"', self.program, self.top)
+        text = f"program {program.sum_of(Path(self.program))}\ncode {program.digest_of(Path(self.top), '.rt')}\nkit kit 1\n"
         self.write(f"{self.program}.made", text)
-
-    def shell(self, text: str, *words: str) -> str:
-        """What a line of shell says that has the functions of tools/proved_program."""
-        return said("env", f"PATH={self.room}/bin:{os.environ['PATH']}", "bash", "-c", f". {TOOLS}/proved_program; {text}", *words)[1]
 
     def was_called(self, name: str) -> bool:
         """Whether a stand-in was called."""
@@ -156,7 +153,7 @@ class Script(unittest.TestCase):
     def test_whose_proof(self) -> None:
         """The version says what is known of the proof, and PROVED-PROGRAM is held against the program, the code and the kit."""
         self.assertIn("the code here isn't the code that was proved last", self.told("--version")[1])
-        keep = ("env", f"PATH={self.room}/bin:{os.environ['PATH']}", f"{self.top}/tools/proved_program")
+        keep = ("env", f"PATH={self.room}/bin:{os.environ['PATH']}", f"PYTHONPATH={self.top}/python", "python3", "-m", "rendapil.program")
         self.assertEqual(said(*keep, "--write", self.program), (0, ""))
         self.assertIn("proof: it is, byte for byte, the program that kit 1 proved from this code\n", self.told("--version")[1])
         self.assertEqual(said(*keep, "--check", self.program), (0, "PROVED-PROGRAM names the program, the code and the kit\n"))
@@ -192,14 +189,13 @@ class Script(unittest.TestCase):
 
     def test_old_python(self) -> None:
         """It is told."""
-        self.write(f"{self.room}/bin/python3", '#!/bin/sh\n[ "$1" = --version ] && echo Python 3.10.12\nexit 1\n')
-        for word in ("check", "explain", "try", "test"):
-            words = (word,) if word == "test" else (word, "x")
-            self.assertEqual(self.told(*words), (70, f"rendapil: {word} needs Python 3.11, and this is Python 3.10.12\n"))
+        old = "import sys, runpy; sys.version_info = (3, 10, 0); runpy.run_module('rendapil', run_name='__main__')"
+        status, text = said("env", f"PYTHONPATH={self.top}/python", "python3", "-c", old, "--help")
+        self.assertEqual((status, text.partition(", ")[0]), (70, "rendapil: this needs Python 3.11"))
 
     def test_check_holds_nothing_up(self) -> None:
         """A run begins at once, and ends within seconds, though the settings are looked at for ever."""
-        self.write(f"{self.room}/bin/python3", "#!/bin/sh\nexec sleep 60\n")
+        self.write(f"{self.top}/python/rendapil/check/settings.py", "import time\ntime.sleep(60)\n")
         begun = time.monotonic()
         self.assertEqual(self.told(*self.run_words(), status=9)[0], 9)
         self.assertLess(time.monotonic() - begun, 20)

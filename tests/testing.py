@@ -25,11 +25,12 @@ right = { pool_first = "172.16.9.1", pool_last = "172.16.9.254", link = "raw" }
 """
 """Settings without a fault."""
 
-sys.path[:0] = [TOOLS, f"{TOP}/examples/live", f"{TOP}/bench"]
+sys.path[:0] = [f"{TOP}/python", f"{TOP}/examples/live", f"{TOP}/bench"]
+CHECK, EXPLAIN, TRY = ((f"{TOP}/rendapil", command) for command in ("check", "explain", "try"))
 
 
 def load(name: str) -> ModuleType:
-    """A tool as a module, loaded once."""
+    """A script of tools/ as a module, loaded once."""
     if name in sys.modules:
         return sys.modules[name]
     module = module_from_spec(spec_from_loader(name, SourceFileLoader(name, f"{TOOLS}/{name}")))

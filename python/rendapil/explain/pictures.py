@@ -1,12 +1,12 @@
-"""Pictures of a run: where each line and area lies, in units of a picture of its own. The template run_page.html draws them as SVG."""
+"""Pictures of a run: where each line and area lies, in units of a picture of its own. The template page.html draws them as SVG."""
 from collections import Counter
 from collections.abc import Callable, Iterable, Iterator
 from dataclasses import dataclass, field
 from typing import NamedTuple
 
-from bindings import SECOND
-from run_frames import second_of
-from run_gathered import Parts
+from rendapil.bindings import SECOND
+from rendapil.frames import second_of
+from rendapil.explain.gathered import Parts
 
 WIDTH, HEIGHT, LEFT, TOP, BOTTOM = 1000, 190, 62, 8, 22
 """A picture's size, and the room beside its plane."""
@@ -124,7 +124,7 @@ def box(axis: Axis, start: int, end: int, low: float, high: float) -> str:
 
 def stacked(name: str, said: str, parts: Parts, axis: Axis, group_of: Callable[[str], str], shown: list[str]) -> Picture:
     """How many frames of some groups each part of the run had, one group upon the other."""
-    sums = [Counter() for _ in parts.parts]
+    sums: list[Counter[str]] = [Counter() for _ in parts.parts]
     for one, part in zip(sums, parts.parts):
         for verdict, count in part.counts.items():
             one[group_of(verdict)] += count

@@ -5,7 +5,7 @@ from bisect import bisect_left
 from collections.abc import Iterator
 from ipaddress import IPv4Address
 
-from bindings import signed
+from rendapil.bindings import signed
 
 SIX = rb"(\d{1,3}),(\d{1,3}),(\d{1,3}),(\d{1,3}),(\d{1,3}),(\d{1,3})(?!\d)"
 

@@ -1,7 +1,7 @@
 """IPv4 datagrams that are changed in place, and their checksums."""
 import struct
 
-from bindings import TCP, UDP
+from rendapil.bindings import TCP, UDP
 
 ICMP = 1
 ICMP_ERRORS = (3, 4, 11, 12)

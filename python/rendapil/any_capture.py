@@ -7,7 +7,7 @@ import zlib
 from collections.abc import Iterator
 from contextlib import closing
 from functools import lru_cache
-from typing import NamedTuple
+from typing import Any, NamedTuple
 
 IPV4 = b"\x08\x00"
 TAGS = (b"\x81\x00", b"\x88\xa8", b"\x91\x00")
@@ -66,7 +66,7 @@ def read(path: str) -> Iterator[Record]:
             yield Record(moment, link, octets, about.wirelen)
 
 
-def whole_ones(reader) -> Iterator[tuple[bytes, tuple]]:
+def whole_ones(reader: Any) -> Iterator[tuple[bytes, Any]]:
     """The frames that scapy reads, up to the first place where it can't go on, whatever it meets there."""
     number = 0
     while True:
@@ -87,7 +87,7 @@ def tell_damage(number: int) -> None:
     print(f"rendapil try: the capture is damaged behind its frame {number}. Those up to it are taken", file=sys.stderr)
 
 
-def _number_interfaces(reader) -> None:
+def _number_interfaces(reader: Any) -> None:
     """Lets each section of a pcapng file number its own interfaces, which scapy 2.5 doesn't."""
     if hasattr(reader, "interfaces"):
         begin = reader._read_block_shb

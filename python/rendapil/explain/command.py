@@ -1,30 +1,24 @@
-#!/usr/bin/env python3
-"""tell_run [OPTIONS] SETTINGS LEFT_IN RIGHT_IN LEFT_OUT RIGHT_OUT REPORT: Who had which alias and when, how full the pools were, and what was
-refused, of which hosts. Takes the words of `rendapil run` with the files as they are. Needs Python 3.11, and for --html python3-jinja2."""
+"""Who had which alias and when, how full the pools were, and what was refused, of which hosts. Takes the words of `rendapil run` with the files as they are. For --html it needs jinja2
+(Debian: python3-jinja2)."""
+import argparse
+import contextlib
+import json
+import os
 import sys
+import tempfile
+import time
+import tomllib
+from collections.abc import Callable, Iterable, Iterator
+from dataclasses import asdict
+from ipaddress import IPv4Address
+from typing import Any, NoReturn
 
-if sys.version_info < (3, 11):
-    sys.exit("rendapil explain: this needs Python 3.11")
-
-import argparse  # noqa: E402
-import contextlib  # noqa: E402
-import json  # noqa: E402
-import os  # noqa: E402
-import signal  # noqa: E402
-import tempfile  # noqa: E402
-import time  # noqa: E402
-import tomllib  # noqa: E402
-from collections.abc import Callable, Iterable, Iterator  # noqa: E402
-from dataclasses import asdict  # noqa: E402
-from ipaddress import IPv4Address  # noqa: E402
-from typing import IO, NoReturn  # noqa: E402
-
-from bindings import SECOND, SIDES, Binding, Pool, statics  # noqa: E402
-from other_python import has  # noqa: E402
-from run_files import Capture, shown, unforeseen  # noqa: E402
-from run_frames import second_of, time_of, verdicts_of  # noqa: E402
-from run_story import Row, Story, named  # noqa: E402
-from settings_reader import check_settings  # noqa: E402
+from rendapil.bindings import SECOND, SIDES, Binding, Pool, statics
+from rendapil.other_python import has
+from rendapil.files import Capture, escape_output, shown, unforeseen
+from rendapil.frames import second_of, time_of, verdicts_of
+from rendapil.explain.story import Row, Story, named
+from rendapil.check.settings import LIMIT, faults_of_keys, read
 
 SHOWN, SHOWN_BINDINGS = 20, 1000
 """The most rows of what was refused, and of bindings, that are shown as text."""
@@ -37,6 +31,7 @@ FILES = {
     "right_out": "that of what it sent to the right realm",
     "report": "the report, or - for standard input",
 }
+
 
 class Fault(Exception):
     """What is told to the user, on one line, at the end."""
@@ -125,8 +120,8 @@ def refused_row(verdict: str, side: str, host: str, row: Row) -> dict[str, objec
 
 def tell_json(story: Story) -> None:
     """All of it as one JSON object, a row a line, its moments in nanoseconds since 1970."""
-    pools = {
-        side: {"addresses": pool.size, "fixed": pool.fixed, "most": pool.most, "most_at": pool.most_at, **{"most_time": times(pool, "most_at")["most_at_time"]}}
+    pools: dict[str, dict[str, object]] = {
+        side: {"addresses": pool.size, "fixed": pool.fixed, "most": pool.most, "most_at": pool.most_at, "most_time": times(pool, "most_at")["most_at_time"]}
         for side, pool in zip(SIDES, story.table.pools)
     }
     whole = {"first": story.first, "last": story.last, **times(story, "first", "last"), "end": story.end, "heartbeats": story.heartbeats}
@@ -184,7 +179,7 @@ def settings_with(text: str, rows: list[Binding]) -> str:
 
 
 @contextlib.contextmanager
-def written(path: str, mode: str) -> Iterator[IO]:
+def written(path: str, mode: str) -> Iterator[Any]:
     """A file that takes the place of what was there when all is written, or a pipe or device as it is."""
     encoding = None if "b" in mode else "utf-8"
     if os.path.exists(path) and not os.path.isfile(path):
@@ -212,9 +207,9 @@ def written(path: str, mode: str) -> Iterator[IO]:
 def document_of(path: str) -> tuple[dict, str]:
     """What a settings file says, and its text."""
     with open(path, "rb") as file:
-        octets = file.read(check_settings().LIMIT + 1)
-    document, faults = check_settings().read(octets)
-    if faults or list(check_settings().faults_of_keys(document)):
+        octets = file.read(LIMIT + 1)
+    document, faults = read(octets)
+    if faults or list(faults_of_keys(document)):
         raise Fault(f"{shown(path)} has faults: 'rendapil check' tells them")
     return document, octets.removeprefix(b"\xef\xbb\xbf").decode()
 
@@ -256,7 +251,7 @@ def progress() -> Callable[[float], object] | None:
 def parsed() -> argparse.Namespace:
     """The words of the command."""
     end = "The status is 0, or 1 where the files can't be read or aren't of one run, or 2 where the words are wrong."
-    parser = argparse.ArgumentParser(prog="rendapil explain", description=__doc__.split(": ", 1)[1], epilog=end)
+    parser = argparse.ArgumentParser(prog="rendapil explain", description=__doc__, epilog=end)
     for name, what in FILES.items():
         parser.add_argument(name, metavar=name.upper(), help=what)
     forms = parser.add_mutually_exclusive_group()
@@ -281,28 +276,29 @@ def explain(words: argparse.Namespace) -> None:
     verdicts = verdicts_of()
     with contextlib.ExitStack() as behind:
         if words.pcapng:
-            import run_pcapng
+            from rendapil.explain.pcapng import Commented
 
             links = [behind.enter_context(Capture(files[name])).link for name in ("left_in", "left_out", "right_in", "right_out")]
-            commented = run_pcapng.Commented(behind.enter_context(written(words.pcapng, "wb")), links, verdicts)
+            commented = Commented(behind.enter_context(written(words.pcapng, "wb")), links, verdicts)
             story.behinds.append(commented.take)
         if words.html:
-            import run_gathered
-            import run_page
+            from rendapil.explain.gathered import Gathered
+            from rendapil.explain.page import Page
 
-            gathered = run_gathered.Gathered(story.table)
+            gathered = Gathered(story.table)
             story.befores.append(gathered.before)
             story.behinds.append(gathered.take)
         if words.events:
-            import run_events
+            from rendapil.explain.events import told as told_event
 
-            story.behinds.append(run_events.told)
+            story.behinds.append(told_event)
         told = progress()
-        story.read(*list(files.values())[1:], told)
+        _, left_in, right_in, left_out, right_out, report = files.values()
+        story.read(left_in, right_in, left_out, right_out, report, told)
         if told:
             print("\033[K", end="", file=sys.stderr, flush=True)
         if words.html:
-            page = run_page.Page(verdicts, {name: shown(path) for name, path in files.items()}).written(gathered, story)
+            page = Page(verdicts, {name: shown(path) for name, path in files.items()}).written(gathered, story)
             behind.enter_context(written(words.html, "w")).write(page)
     if words.new_settings:
         with written(words.new_settings, "w") as file:
@@ -320,16 +316,17 @@ def fail(text: str) -> NoReturn:
     sys.exit(("\033[K" if sys.stderr.isatty() else "") + f"rendapil explain: {text}")
 
 
-def main() -> None:
+def main() -> int:
     """Reads the words, and does it."""
-    sys.stdout.reconfigure(errors="backslashreplace")
+    escape_output()
     try:
         explain(parsed())
         sys.stdout.flush()
+        return 0
     except (Fault, ValueError) as error:
         fail(f"these aren't files of one run: {error}" if isinstance(error, ValueError) else str(error))
     except OSError as error:
-        sys.stdout = None  # nothing more goes there
+        sys.stdout = open(os.devnull, "w")  # nothing more goes there
         fail(f"{shown(str(error.filename or 'standard output'))}: {error.strerror}")
     except KeyboardInterrupt:
         sys.exit(130)
@@ -340,5 +337,4 @@ def main() -> None:
 
 
 if __name__ == "__main__":
-    signal.signal(signal.SIGPIPE, signal.SIG_DFL)
-    main()
+    sys.exit(main())

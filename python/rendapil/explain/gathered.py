@@ -4,8 +4,8 @@ from collections.abc import Callable
 from dataclasses import dataclass, field
 from typing import NamedTuple
 
-from bindings import ACK, DNS_PORT, FTP_PORT, RST, SYN, TCP, Bindings, Stream, signed
-from run_frames import HIDDEN, SECRET, Event, Piece, Segment, address_of, compared, dns_lines, ftp_lines
+from rendapil.bindings import ACK, DNS_PORT, FTP_PORT, RST, SYN, TCP, Bindings, Stream, signed
+from rendapil.frames import HIDDEN, SECRET, Event, Piece, Segment, address_of, compared, dns_lines, ftp_lines
 
 PARTS = 240
 """The most parts into which the time of a run is cut, and its frames by number."""

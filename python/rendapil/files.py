@@ -2,8 +2,10 @@
 import os
 import re
 import struct
+import sys
 import traceback
 from collections.abc import Iterator
+from io import TextIOWrapper
 from typing import BinaryIO, NamedTuple, Self
 
 ETHERNET, RAW_IP = 1, 101
@@ -25,6 +27,12 @@ SIDES = {b"left": 0, b"right": 1}
 def shown(name: str) -> str:
     """A file's name, or another text from outside, with all that isn't printable escaped."""
     return "".join(one if one.isprintable() else one.encode("utf-8", "backslashreplace").decode() if "\ud800" <= one <= "\udfff" else repr(one)[1:-1] for one in name)
+
+
+def escape_output() -> None:
+    """Lets standard output take every name, those that are no text with escapes."""
+    if isinstance(sys.stdout, TextIOWrapper):
+        sys.stdout.reconfigure(errors="backslashreplace")
 
 
 def unforeseen(error: Exception) -> str:

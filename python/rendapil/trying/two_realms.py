@@ -10,10 +10,10 @@ from contextlib import suppress
 from dataclasses import dataclass, field
 from ipaddress import IPv4Address, IPv4Network, collapse_addresses
 
-from any_capture import Record, datagram_in
-from bindings import DNS_PORT, FTP_PORT, SIDES, SYN, TCP, UDP, Binding, Bindings, named_in
-from packet import Packet, is_host
-from spoken import Spoken
+from rendapil.any_capture import Record, datagram_in
+from rendapil.bindings import DNS_PORT, FTP_PORT, SIDES, SYN, TCP, UDP, Binding, Bindings, named_in
+from rendapil.packet import Packet, is_host
+from rendapil.trying.spoken import Spoken
 
 CANDIDATES = [
     *map(IPv4Network, ("192.168.200.0/24", "172.31.200.0/24", "10.200.0.0/24", "198.18.0.0/24", "198.19.0.0/24")),
@@ -167,7 +167,7 @@ class TwoRealms:
             for address, host in sorted(self.hosts.items(), key=lambda pair: (-pair[1].frames, pair[0])):
                 if host.side == side or self.pool and not host.contacted_first:
                     continue
-                wanted = first - 1 + address % (last - first + 2)
+                wanted = first - 1 + address % 256
                 host.alias = wanted if wanted in free else next(one for one in least if one in free)
                 free.remove(host.alias)
         realms = {side: {"pool_first": str(IPv4Address(first)), "pool_last": str(IPv4Address(last))} for side, (first, last) in zip(SIDES, self.pools)}

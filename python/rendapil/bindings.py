@@ -6,7 +6,7 @@ import heapq
 import struct
 from bisect import bisect_right
 from collections.abc import Callable, Iterable, Iterator
-from dataclasses import dataclass, field
+from dataclasses import dataclass
 from ipaddress import IPv4Address, IPv4Network
 from itertools import accumulate, zip_longest
 
@@ -299,7 +299,7 @@ class Blocks:
     def __init__(self, blocks: Iterable[str]) -> None:
         ranges = sorted((int(block[0]), int(block[-1])) for block in map(IPv4Network, blocks))
         self._firsts = [first for first, _ in ranges]
-        self._lasts = list(accumulate((last for _, last in ranges), max))  # the greatest address of a block and of those before it
+        self._lasts = list(accumulate((last for _, last in ranges), lambda one, other: max(one, other)))  # the greatest address of a block and of those before it
 
     def __contains__(self, address: int) -> bool:
         """Whether an address lies in one of them."""

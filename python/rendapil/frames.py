@@ -1,6 +1,5 @@
 """What a frame says, in words: for the page of a run, its capture with comments and its lines of JSON. All that stands in a capture may be
 hostile: `plain` makes text of it that has no control characters."""
-import os
 import re
 import struct
 from dataclasses import dataclass
@@ -8,8 +7,9 @@ from datetime import datetime, timezone
 from functools import lru_cache
 from typing import NamedTuple
 
-from bindings import DNS_PORT, FTP_PORT, LABELS, SECOND, TCP, UDP, Names
-from run_files import Frame
+from rendapil.bindings import DNS_PORT, FTP_PORT, LABELS, SECOND, TCP, UDP, Names
+from rendapil.files import Frame
+from rendapil.places import TOP
 
 PROTOCOLS = {1: "ICMP", TCP: "TCP", UDP: "UDP"}
 TYPES = {1: "A", 2: "NS", 5: "CNAME", 6: "SOA", 12: "PTR", 15: "MX", 16: "TXT", 28: "AAAA", 33: "SRV", 41: "OPT", 252: "AXFR", 255: "ANY"}
@@ -171,7 +171,7 @@ def words_of(markdown: str) -> str:
 def verdicts_of() -> dict[str, Verdict]:
     """The tables of REPORT.md, by verdict."""
     group, found = "", {}
-    with open(os.path.join(os.path.dirname(os.path.realpath(__file__)), "../docs/REPORT.md"), encoding="utf-8") as file:
+    with open(TOP / "docs/REPORT.md", encoding="utf-8") as file:
         for line in file:
             if line.startswith("### "):
                 group = line[4:].strip()

@@ -1,8 +1,8 @@
 """A line of JSON for each frame of a run. The fields have the names of Suricata's eve.json, where it has them."""
 import json
 
-from bindings import SIDES
-from run_frames import Event, address_of, ends, spoken, time_of
+from rendapil.bindings import SIDES
+from rendapil.frames import Event, address_of, ends, spoken, time_of
 
 
 def told(event: Event) -> None:

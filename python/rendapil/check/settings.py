@@ -1,12 +1,10 @@
-#!/usr/bin/env python3
-"""check_settings [--brief] SETTINGS [LEFT_IN RIGHT_IN]: what a settings file says, keys that the gateway doesn't know, and each fault with what
-is allowed; whether SNMP messages tell aliases that no static keeps; and which frames of two captures will be refused by it. --brief tells the unknown keys and the faults alone. Ends with 1 where there
-is any. Needs Python 3.11 alone."""
+"""What a settings file says, keys that the gateway doesn't know, and each fault with what is allowed; whether SNMP messages tell
+aliases that no static keeps; and which frames of two captures will be refused by it. Ends with 1 where there is any."""
 import argparse
 import difflib
 import re
-import signal
 import sys
+import tomllib
 from bisect import bisect_right
 from collections.abc import Callable, Iterator
 from dataclasses import dataclass
@@ -256,8 +254,6 @@ DEEP_KEY = re.compile(rf"""(?:^|[\[{{,])[ \t]*+(?:(?:[\w-]++|"[^"\n]*+"|'[^'\n]*
 
 def read(octets: bytes) -> tuple[dict, list[str]]:
     """The document, and why it is none."""
-    import tomllib
-
     if len(octets) > LIMIT:
         return {}, [f"TooLong: it has more than {LIMIT} bytes"]
     try:
@@ -280,9 +276,9 @@ def read(octets: bytes) -> tuple[dict, list[str]]:
 
 def faults_of_captures(paths: list[str], realms: Realms) -> Iterator[str]:
     """What of the frames of both captures will be refused."""
-    import check_captures
+    from rendapil.check.captures import told
 
-    return check_captures.told(paths, realms)
+    return told(paths, realms)
 
 
 def plain(text: str) -> str:
@@ -297,8 +293,6 @@ def lines_of(settings: str, captures: list[str], brief: bool) -> list[str]:
             document, faults = read(file.read(LIMIT + 1))
     except OSError as error:
         sys.exit(f"rendapil check: {plain(settings)}: {error.strerror}")
-    except ModuleNotFoundError:
-        sys.exit(None if brief else "rendapil check: this needs Python 3.11")
     lines = [] if faults else unknown_keys(document)
     faults = faults or list(faults_of_keys(document))
     realms = None if faults else Realms(document)
@@ -307,7 +301,7 @@ def lines_of(settings: str, captures: list[str], brief: bool) -> list[str]:
         realms.tell()
         lines += [] if faults else realms.unkept()
     lines = [f"{settings}: {line}" for line in lines + faults]
-    return lines + list(faults_of_captures(captures, realms) if captures and not faults else [])
+    return lines + list(faults_of_captures(captures, realms) if realms and captures and not faults else [])
 
 
 def is_text(path: str) -> bool:
@@ -321,7 +315,7 @@ def is_text(path: str) -> bool:
 
 def main() -> int:
     """Checks each file, and says whether there is anything to mind."""
-    parser = argparse.ArgumentParser(prog="rendapil check", description=__doc__.split(": ", 1)[1])
+    parser = argparse.ArgumentParser(prog="rendapil check", description=__doc__)
     parser.add_argument("settings", metavar="SETTINGS", help="a file, or - for standard input")
     parser.add_argument("more", metavar="FILE", nargs="*", help="LEFT_IN and RIGHT_IN, whose frames are looked at by these settings, or more SETTINGS")
     parser.add_argument("--brief", action="store_true", help="tell the unknown keys and the faults alone")
@@ -338,5 +332,4 @@ def main() -> int:
 
 
 if __name__ == "__main__":
-    signal.signal(signal.SIGPIPE, signal.SIG_DFL)
     sys.exit(main())

@@ -7,9 +7,9 @@ from contextlib import ExitStack
 from dataclasses import dataclass, field
 from itertools import islice
 
-from bindings import ETHERNET, SIDES, Binding, Bindings, datagram_of
-from run_files import SENT, Capture, Frame, Line, lines, shown
-from run_frames import Event, address_of
+from rendapil.bindings import ETHERNET, SIDES, Binding, Bindings, datagram_of
+from rendapil.files import SENT, Capture, Frame, Line, lines, shown
+from rendapil.frames import Event, address_of
 
 HOSTS, DESTINATIONS = 10_000, 16
 """The most hosts of which refused frames are kept, those with the most, and of each the most destinations. The rest is summed."""
@@ -61,6 +61,8 @@ class Refusals:
     def take(self, event: Event) -> None:
         """Takes a frame that was refused."""
         datagram = event.datagram
+        host: bytes | str
+        to: bytes | str
         if datagram:
             host, to = datagram[12:16], datagram[16:20]
         else:
@@ -141,8 +143,9 @@ class Story:
                 if told and size and line.number % 1024 == 0:
                     told(file.tell() / size)
                 self._event(line, next(came[line.side], None), sent[1 - line.side], names)
-            for name, frames in zip(names, (*came, *sent)):
-                if self.end != CUT_SHORT and next(frames, None):
+            every: list[Iterator[Frame]] = [*came, *sent]
+            for name, frames in zip(names, every):
+                if self.end != CUT_SHORT and next(frames, None) is not None:
                     raise ValueError(f"{name} has more frames than the report")
 
     def _event(self, line: Line, frame: Frame | None, sent: Iterator[Frame], names: list[str]) -> None:

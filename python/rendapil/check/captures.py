@@ -1,6 +1,5 @@
-#!/usr/bin/env python3
-"""check_captures.py SETTINGS LEFT_IN RIGHT_IN: which frames of two captures a gateway with these settings refuses whatever it knows by then, and the
-command that mends it, in at most two lines. 'rendapil check SETTINGS LEFT_IN RIGHT_IN' says more of the same. Needs Python 3.11 alone."""
+"""Which frames of two captures a gateway refuses whatever it knows by then, and the command that mends it. As a module that is run, with SETTINGS
+LEFT_IN RIGHT_IN, it tells at most two lines. 'rendapil check SETTINGS LEFT_IN RIGHT_IN' says more of the same."""
 import hashlib
 import os
 import shlex
@@ -11,40 +10,30 @@ from collections.abc import Iterator
 from dataclasses import dataclass, field
 from ipaddress import IPv4Address
 from itertools import islice
+from typing import TYPE_CHECKING
 
-from any_capture import IPV4, TAGS
-from packet import SUM_AT, Packet, is_host
-from run_files import ETHERNET, FORMS, RAW_IP, RECORD, shown
+from rendapil.any_capture import IPV4, TAGS
+from rendapil.files import ETHERNET, FORMS, RECORD, shown
+from rendapil.kinds import by_head
+from rendapil.packet import SUM_AT, Packet, is_host
+
+if TYPE_CHECKING:
+    from rendapil.check.settings import Realms
 
 LOOKED_AT, BRIEFLY = 20_000, 4_000
 """How many frames of a capture are looked at, and how many behind a run."""
 
-HEADS = {b"\x0a\x0d\x0d\x0a": "a pcapng file", b"\x34\xcd\xb2\xa1": "a capture with longer record heads", b"\xa1\xb2\xcd\x34": "a capture with longer record heads"}
-PACKED = {b"\x1f\x8b": ("gzip", "gunzip -c"), b"\x28\xb5\x2f\xfd": ("zstd", "zstd -dc"), b"\xfd\x37\x7a\x58": ("xz", "xz -dc")}
-LINKS = {0: "-L -C 4 -T rawip ", 108: "-L -C 4 -T rawip ", 12: "-T rawip ", 228: "-T rawip ", 113: "-L -C 16 -T rawip ", 276: "-L -C 20 -T rawip "}
-"""What editcap is told to make bare IPv4 of a link."""
-
 
 def unreadable(head: bytes, old: str) -> str:
     """Why a file isn't a capture that the gateway reads, and the command that makes it one, by its first bytes."""
-    if not head:
-        return "is empty: NoHead"
-    for begin, (what, command) in PACKED.items():
-        if head.startswith(begin):
-            return f"is packed by {what}: Magic. Unpack it: {command} {old} >NEW"
-    if head[:4] in HEADS:
-        return f"is {HEADS[head[:4]]}: Magic. Convert it: editcap -F pcap {old} NEW"
-    if head[:4] not in FORMS:
+    kind = by_head(head, old)
+    if not kind:
         return "is no capture: Magic. Are the words in their order?"
-    if len(head) < 24:
-        return "has no whole head: NoHead"
-    link = struct.unpack(FORMS[head[:4]][0] + "I", head[20:])[0]
-    if link in (ETHERNET, RAW_IP):
-        return ""
-    if link & 0xFFFF == ETHERNET:
-        return f"has Ethernet frames with check sequences: Link. Convert it: editcap -F pcap {old} NEW"
-    mend = f"Convert it: editcap -F pcap {LINKS[link]}{old} NEW" if link in LINKS else "Capture on an Ethernet interface or a tun device"
-    return f"has link type {link}: Link. {mend}"
+    if kind.command:
+        return f"{kind.what}: {kind.fault}. {kind.verb} it: {kind.command}"
+    if kind.fault == "Link":
+        return f"{kind.what}: {kind.fault}. Capture on an Ethernet interface or a tun device"
+    return f"{kind.what}: {kind.fault}" if kind.fault else ""
 
 
 @dataclass
@@ -57,7 +46,7 @@ class Looked:
     fault: str = ""
 
 
-def look_at(path: str, side: str, realms, most: int) -> Looked:
+def look_at(path: str, side: str, realms: "Realms", most: int) -> Looked:
     """Looks at the first frames of a capture. `realms` are the settings."""
     looked, digest = Looked(), hashlib.sha256()
     with open(path, "rb") as file:
@@ -84,7 +73,7 @@ def look_at(path: str, side: str, realms, most: int) -> Looked:
     return looked
 
 
-def kind_of(octets: bytes, link: int, length: int, side: str, realms) -> str:
+def kind_of(octets: bytes, link: int, length: int, side: str, realms: "Realms") -> str:
     """What the gateway has to say of a frame: the first of the reasons that are looked for, in the order in which it looks for them."""
     if not octets:
         return "heartbeat"
@@ -116,7 +105,7 @@ def kind_of(octets: bytes, link: int, length: int, side: str, realms) -> str:
     return "swapped" if realms.is_in_pool("right" if side == "left" else "left", destination) else "far"
 
 
-def mends(side: str, path: str, realms) -> dict[str, tuple[str, str]]:
+def mends(side: str, path: str, realms: "Realms") -> dict[str, tuple[str, str]]:
     """For each kind what is told of it, and what mends it."""
     old = shlex.quote(path)
     first, last = (IPv4Address(end) for end in realms.pools[side])
@@ -132,7 +121,7 @@ def mends(side: str, path: str, realms) -> dict[str, tuple[str, str]]:
     }
 
 
-def told(paths: list[str], realms, most: int = LOOKED_AT) -> Iterator[str]:
+def told(paths: list[str], realms: "Realms", most: int = LOOKED_AT) -> Iterator[str]:
     """A line for each kind of frames that will be refused, with the command that mends it, the gravest first."""
     if not paths:
         return
@@ -171,13 +160,13 @@ def is_one_capture(paths: list[str], found: list[Looked]) -> bool:
 
 def main() -> None:
     """Tells the two gravest lines. Says nothing where it can't look."""
-    from settings_reader import check_settings
+    from rendapil.check.settings import LIMIT, Realms, read
 
     settings, *paths = sys.argv[1:4]
     with open(settings, "rb") as file:
-        document, faults = check_settings().read(file.read(check_settings().LIMIT + 1))
+        document, faults = read(file.read(LIMIT + 1))
     if not faults and all(map(os.path.isfile, paths)):
-        for line in islice(told(paths, check_settings().Realms(document), BRIEFLY), 2):
+        for line in islice(told(paths, Realms(document), BRIEFLY), 2):
             print(line)
 
 

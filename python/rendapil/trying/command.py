@@ -1,34 +1,28 @@
-#!/usr/bin/env python3
-"""try_capture CAPTURE [--left BLOCK..] [OPTIONS]: What if the hosts of an ordinary capture were two realms? Writes settings and the two captures that
-a gateway between them would take, runs the gateway, and tells. Without --left it lists who speaks with whom, and what to type next. Needs Python
-3.11 and python3-scapy, and for the page python3-jinja2."""
+"""What if the hosts of an ordinary capture were two realms? Writes settings and the two captures that
+a gateway between them would take, runs the gateway, and tells. Without --left it lists who speaks with whom, and what to type next. It
+needs scapy, and for the page jinja2 (Debian: python3-scapy, python3-jinja2)."""
+import argparse
+import contextlib
+import os
+import shlex
+import shutil
+import subprocess
 import sys
+import tempfile
+from collections import Counter
+from collections.abc import Iterable, Iterator
+from importlib.util import find_spec
+from ipaddress import IPv4Network, collapse_addresses
+from typing import BinaryIO, NoReturn
 
-if sys.version_info < (3, 11):
-    sys.exit("rendapil try: this needs Python 3.11")
+from rendapil.any_capture import datagram_in, records
+from rendapil.other_python import debian_has, has
+from rendapil.packet import is_host
+from rendapil.places import TOP
+from rendapil.files import escape_output, lines, shown, unforeseen
+from rendapil.frames import verdicts_of
+from rendapil.trying.two_realms import TwoRealms, write_captures
 
-import argparse  # noqa: E402
-import contextlib  # noqa: E402
-import os  # noqa: E402
-import shlex  # noqa: E402
-import shutil  # noqa: E402
-import signal  # noqa: E402
-import subprocess  # noqa: E402
-import tempfile  # noqa: E402
-from collections import Counter  # noqa: E402
-from collections.abc import Iterable, Iterator  # noqa: E402
-from importlib.util import find_spec  # noqa: E402
-from ipaddress import IPv4Network, collapse_addresses  # noqa: E402
-from typing import NoReturn  # noqa: E402
-
-from any_capture import datagram_in, records  # noqa: E402
-from other_python import debian_has, has  # noqa: E402
-from packet import is_host  # noqa: E402
-from run_files import lines, shown, unforeseen  # noqa: E402
-from run_frames import verdicts_of  # noqa: E402
-from two_realms import TwoRealms, write_captures  # noqa: E402
-
-HERE = os.path.dirname(os.path.realpath(__file__))
 NAMES = ("settings.toml", "left.pcap", "right.pcap", "left-out.pcap", "right-out.pcap", "report.txt", "run.html", "run.pcapng")
 PAIRS = 20_000
 """The most pairs of hosts that are counted."""
@@ -63,7 +57,8 @@ def between_blocks(hosts: Pairs) -> Pairs:
     """The same between blocks of 256 addresses."""
     found: Pairs = Counter()
     for (one, other), count in hosts.items():
-        found[tuple(sorted((one.supernet(8), other.supernet(8))))] += count
+        low, high = sorted((one.supernet(8), other.supernet(8)))
+        found[low, high] += count
     return found
 
 
@@ -165,7 +160,7 @@ def block(text: str) -> IPv4Network:
 def parsed() -> argparse.Namespace:
     """The words of the command."""
     end = "The status is 0, or 1 where the capture can't be read or no frame crosses, or 2 where the words are wrong, or that of the run."
-    parser = argparse.ArgumentParser(prog="rendapil try", description=__doc__.split(": ", 1)[1], epilog=end)
+    parser = argparse.ArgumentParser(prog="rendapil try", description=__doc__, epilog=end)
     parser.add_argument("capture", metavar="CAPTURE", help="a capture as pcap or pcapng, packed by gzip or not, of any interface")
     parser.add_argument("--left", metavar="BLOCK", nargs="+", type=block, default=[], help="addresses of the left realm, as 10.1.0.0/16")
     parser.add_argument("--same", metavar="BLOCK", nargs="+", type=block, default=[], help="addresses that cross unchanged")
@@ -179,6 +174,13 @@ def parsed() -> argparse.Namespace:
     return words
 
 
+def opened(capture: str) -> contextlib.AbstractContextManager[BinaryIO]:
+    """A capture, or standard input."""
+    if capture == "-":
+        return contextlib.nullcontext(sys.stdin.buffer)
+    return open(capture, "rb")
+
+
 @contextlib.contextmanager
 def readable_twice(capture: str) -> Iterator[str]:
     """A capture as a file: what comes from a pipe is copied."""
@@ -187,7 +189,7 @@ def readable_twice(capture: str) -> Iterator[str]:
         return
     if os.path.isdir(capture):
         raise IsADirectoryError(21, "Is a directory", capture)
-    with tempfile.NamedTemporaryFile(prefix="rendapil-") as copy, contextlib.nullcontext(sys.stdin.buffer) if capture == "-" else open(capture, "rb") as file:
+    with tempfile.NamedTemporaryFile(prefix="rendapil-") as copy, opened(capture) as file:
         shutil.copyfileobj(file, copy)
         copy.flush()
         yield copy.name
@@ -218,7 +220,7 @@ def try_it(words: argparse.Namespace, capture: str) -> int:
     tell_realms(realms, counts, words.out)
     sys.stdout.flush()
     run = [files[name] for name in NAMES[:6]]
-    status = subprocess.run([words.program or f"{HERE}/../rendapil", "run", *run], check=False).returncode
+    status = subprocess.run([words.program or TOP / "rendapil", "run", *run], check=False).returncode
     if status:
         return status
     verdicts = verdicts_in(files["report.txt"])
@@ -226,7 +228,7 @@ def try_it(words: argparse.Namespace, capture: str) -> int:
     tell_limits(verdicts, realms, ["rendapil", "try", shown(words.capture), "--left", *map(str, words.left)])
     page = ["--html", files["run.html"]] if find_spec("jinja2") or debian_has("jinja2") else []
     sys.stdout.flush()
-    status = subprocess.run([sys.executable, "-B", f"{HERE}/tell_run", *page, "--pcapng", files["run.pcapng"], *run], check=False).returncode
+    status = subprocess.run([TOP / "rendapil", "explain", *page, "--pcapng", files["run.pcapng"], *run], check=False).returncode
     look = f"open {shown(files['run.html'])} in a browser" if page else "for a page with pictures: apt-get install python3-jinja2"
     print(f"\nNext: {look}; {shown(files['run.pcapng'])} is for Wireshark, and {shown(files['settings.toml'])} has the settings.")
     return status
@@ -237,9 +239,9 @@ def fail(text: str) -> NoReturn:
     sys.exit(f"rendapil try: {text}")
 
 
-def main() -> None:
-    """Reads the words, and does it."""
-    sys.stdout.reconfigure(errors="backslashreplace")
+def main() -> int:
+    """Reads the words, and does it. The status."""
+    escape_output()
     words = parsed()
     if not has("scapy"):
         fail("this needs scapy: apt-get install python3-scapy")
@@ -253,7 +255,7 @@ def main() -> None:
                 tell_pairs(capture, words.capture)
                 status = 0
         sys.stdout.flush()
-        sys.exit(status)
+        return status
     except (Fault, ValueError) as error:
         fail(shown(str(error)))
     except (Scapy_Exception, EOFError) as error:
@@ -267,5 +269,4 @@ def main() -> None:
 
 
 if __name__ == "__main__":
-    signal.signal(signal.SIGPIPE, signal.SIG_DFL)
-    main()
+    sys.exit(main())

@@ -21,5 +21,5 @@ def has(package: str) -> bool:
         return True
     if "RENDAPIL_PYTHON" not in os.environ and debian_has(package):
         os.environ["RENDAPIL_PYTHON"] = DEBIAN  # once is enough
-        os.execv(DEBIAN, [DEBIAN, "-B", *sys.argv])
+        os.execv(DEBIAN, [DEBIAN, "-m", "rendapil", *sys.argv[0].split()[1:], *sys.argv[1:]])
     return False

@@ -1,15 +1,15 @@
-"""The page of a run, written by the template run_page.html. Jinja escapes all that comes from the captures. Needs Debian's python3-jinja2."""
+"""The page of a run, written by the template page.html. Jinja escapes all that comes from the captures. Needs Debian's python3-jinja2."""
 import base64
 import hashlib
 import os
 from ipaddress import IPv4Address
-from typing import NamedTuple
+from typing import Any, NamedTuple
 
-from bindings import SIDES, Binding
-from run_frames import Verdict
-from run_gathered import PARTS, Gathered, Parts
-from run_pictures import BOTTOM, HEIGHT, LEFT, TOP, WIDTH, Axis, Picture, Tick, clock, filled, span, stacked
-from run_story import Story
+from rendapil.bindings import SIDES, Binding
+from rendapil.frames import Verdict
+from rendapil.explain.gathered import PARTS, Gathered, Parts
+from rendapil.explain.pictures import BOTTOM, HEIGHT, LEFT, TOP, WIDTH, Axis, Picture, Tick, clock, filled, span, stacked
+from rendapil.explain.story import Story
 
 SHOWN_BINDINGS, SHOWN_REFUSED = 500, 100
 """The most rows of each table."""
@@ -42,7 +42,8 @@ def bar_of(one: Binding, axis: Axis) -> Bar:
     ended = "fixed" if one.fixed else f"ends {clock(one.end, 0)}" if one.end <= axis.end else "still lasts at the end of the run"
     told = f"{side} {host} is {alias} on the {SIDES[1 - one.side]}: used {one.uses:,} times, {clock(one.first)} to {clock(one.last)}; {ended}"
     widths = max(0.3, at[1] - at[0]), max(0.0, at[2] - at[1])
-    return Bar(one, side, host, alias, clock(one.first, 0), clock(one.last, 0), *(round(value, 2) for value in (min(at[0], 99.7), *widths)), told)
+    left, used, lasted = (round(value, 2) for value in (min(at[0], 99.7), *widths))
+    return Bar(one, side, host, alias, clock(one.first, 0), clock(one.last, 0), left, used, lasted, told)
 
 
 GROUPS = ("pass", "held")
@@ -117,9 +118,9 @@ class Page:
         used = story.used()
         most_used = sorted(used, key=lambda one: -one.uses)[:SHOWN_BINDINGS]
         axis = self.axes(run)[0][2]
-        style, script = (self._part(room, name) for name in ("run_page.css", "run_page.js"))
+        style, script = (self._part(room, name) for name in ("page.css", "page.js"))
         total, refused = sum(run.counts.values()), sum(count for _, count in reasons)
-        return room.get_template("run_page.html").render(
+        return room.get_template("page.html").render(
             {
                 **{"story": story, "run": run, "names": self.names, "verdicts": self.verdicts, "classes": self.classes, "sides": SIDES},
                 **{"clock": clock, "span": span, "counted": counted, "group_of": self.group_of},
@@ -145,7 +146,7 @@ class Page:
         return [Tick((tick.at - LEFT) / (WIDTH - LEFT) * 100, tick.text) for tick in axis.ticks(3)]
 
     @staticmethod
-    def _part(room, name: str) -> tuple[str, str]:
+    def _part(room: Any, name: str) -> tuple[str, str]:
         """A file that stands in the page as it is, and its sum, by which the page allows it."""
         from markupsafe import Markup
 

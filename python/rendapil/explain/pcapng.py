@@ -3,9 +3,9 @@ here of the format (draft-ietf-opsawg-pcapng) are three blocks: a section's head
 import struct
 from typing import BinaryIO
 
-from bindings import SIDES
-from run_files import Frame
-from run_frames import Event, Verdict, compared, spoken, ways
+from rendapil.bindings import SIDES
+from rendapil.files import Frame
+from rendapil.frames import Event, Verdict, compared, spoken, ways
 
 INTERFACES = [f"{side}-{way}" for side in SIDES for way in ("in", "out")]
 COMMENT, NAME, PROGRAM, UNIT = 1, 2, 4, 9
