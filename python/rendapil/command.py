@@ -94,7 +94,8 @@ def test() -> int:
     from rendapil.build import have_program
 
     have_program()
-    return subprocess.run([sys.executable, TOP / "tests/cases", PROGRAM], check=False).returncode
+    env = {name: value for name, value in os.environ.items() if name != "PYTHONSAFEPATH"}  # tests import each other by their folder
+    return subprocess.run([sys.executable, TOP / "tests/cases", PROGRAM], env=env, check=False).returncode
 
 
 def refused(words: list[str]) -> int:

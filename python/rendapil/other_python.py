@@ -11,7 +11,7 @@ DEBIAN = "/usr/bin/python3"
 @lru_cache
 def debian_has(package: str) -> bool:
     """Whether Debian's Python has a package, and is as new as it has to be."""
-    words = [DEBIAN, "-c", f"import tomllib, {package}"]
+    words = [DEBIAN, "-I", "-c", f"import tomllib, {package}"]  # -I: no module of the folder that one is in
     return os.access(DEBIAN, os.X_OK) and not subprocess.run(words, stderr=subprocess.DEVNULL, check=False).returncode
 
 

@@ -73,7 +73,7 @@ class Words:
             if not name or name.startswith("-"):  # no name of a file
                 continue
             if not os.path.exists(name):
-                self.created.append(name)
+                self.created.append(os.path.realpath(name))  # the file, where a link leads to it
             elif not os.path.isfile(name):
                 continue
             try:
