@@ -17,6 +17,7 @@ COMMANDS = (
     ("explain", "--html", "page", *INPUTS, *OUTPUTS),
     ("try", CASE[1]),
     ("try", CASE[1], "--left", "10.0.0.0/8"),
+    ("plan", CASE[1], CASE[2]),
 )
 
 

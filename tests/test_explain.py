@@ -275,15 +275,13 @@ class Damaged(InRoom):
     FORMS = ([], ["--json"], ["--events"], ["--pcapng", "PCAPNG"], ["--statics"])
 
     def asked(self, words: list[str]) -> tuple[object, str]:
-        """Status and output of the command, in this process."""
+        """Status, or the line that it ends with, and output of the command, in this process."""
         out = io.StringIO()
-        out.reconfigure = lambda **_: None
         with mock.patch.object(sys, "argv", ["rendapil explain", *words]), contextlib.redirect_stdout(out), contextlib.redirect_stderr(out):
             try:
-                explain.main()
-                status: object = 0
+                status: object = explain.main()
             except SystemExit as end:
-                status = end.code
+                status = end.code if end.code != 1 else out.getvalue().splitlines()[-1]
         return status, out.getvalue()
 
     def test_octets_that_changed(self) -> None:
@@ -310,7 +308,7 @@ class Damaged(InRoom):
 
     def test_faults_of_the_tool(self) -> None:
         """What nobody foresaw is told in one line, with its place."""
-        with mock.patch.object(explain, "tell", lambda _: {}["x"]):
+        with mock.patch.object(explain, "tell", lambda *_: {}["x"]):
             status, _ = self.asked([*INPUTS, *OUTPUTS])
         self.assertRegex(str(status), r"^rendapil explain: a fault of this tool, and not of your files: KeyError at test_explain.py:\d+. Please report it$")
 

@@ -11,7 +11,8 @@ from ipaddress import IPv4Address
 
 TOP = os.path.join(os.path.dirname(os.path.realpath(__file__)), "../..")
 sys.path.insert(0, f"{TOP}/python")
-from rendapil.bindings import LONG_TIMEOUT, SECOND, SIDES, Binding, Bindings, Pool, datagram_of, statics  # noqa: E402
+from rendapil.bindings import LONG_TIMEOUT, SECOND, SIDES, Binding, Bindings, Pool, datagram_of  # noqa: E402
+from rendapil.settings_text import statics  # noqa: E402
 
 FULL, AGAIN = 80, 70
 """How full a pool is when it is told, in percent, and below which level it is told anew."""

@@ -9,6 +9,8 @@ from contextlib import closing
 from functools import lru_cache
 from typing import Any, NamedTuple
 
+from rendapil.bindings import TCP
+
 IPV4 = b"\x08\x00"
 TAGS = (b"\x81\x00", b"\x88\xa8", b"\x91\x00")
 """The types of Ethernet frames that have a VLAN tag."""
@@ -20,14 +22,24 @@ RAW, NULL, SLL, SLL2 = (12, 14, 101, 228), (0, 108), 113, 276
 MOMENTS, WINDOW = 10**9 << 32, 200
 """Where the moments end that a capture's stamps can tell, and how many frames are put in order."""
 
+MOST = 1 << 24
+"""The most bytes of a block: those of a packed file may be a million times as many as the file has."""
+
+
+IN, OUT, LOCAL, UNKNOWN = 0, 1, 2, 3
+"""The way of a frame on a link: to the device, from the device, neither, or nothing that shows it."""
+
 
 class Record(NamedTuple):
-    """A frame of a capture: its stamp in nanoseconds, its link, its bytes and the length that it had on the wire."""
+    """A frame of a capture: its stamp in nanoseconds, its link, its bytes and the length that it had on the wire. Its interface, and its way, where the
+    capture says it."""
 
     moment: int
     link: int
     octets: bytes
     length: int
+    interface: str = ""
+    way: int = UNKNOWN
 
 
 def records(path: str) -> Iterator[Record]:
@@ -56,6 +68,7 @@ def read(path: str) -> Iterator[Record]:
     except (zlib.error, struct.error, MemoryError) as error:
         raise EOFError(f"it is damaged: {error}") from None
     with closing(opened) as reader:
+        reader.f = Bounded(reader.f)
         _number_interfaces(reader)
         for octets, about in whole_ones(reader):
             if not hasattr(about, "tshigh"):
@@ -64,6 +77,22 @@ def read(path: str) -> Iterator[Record]:
                 stamp, link = ((about.tshigh << 32) + about.tslow) * 10**9 // about.tsresol if about.tshigh is not None else moment, about.linktype
             moment = stamp if stamp < MOMENTS else moment
             yield Record(moment, link, octets, about.wirelen)
+
+
+class Bounded:
+    """A file of which no more than a block is read at once."""
+
+    def __init__(self, file: Any) -> None:
+        self._file = file
+
+    def read(self, size: int) -> bytes:
+        """So many bytes. MemoryError where they are more than a block has."""
+        if not 0 <= size <= MOST:
+            raise MemoryError(f"a block of {size} bytes")
+        return bytes(self._file.read(size))
+
+    def __getattr__(self, name: str) -> Any:
+        return getattr(self._file, name)
 
 
 def whole_ones(reader: Any) -> Iterator[tuple[bytes, Any]]:
@@ -124,12 +153,28 @@ def datagram_in(link: int, octets: bytes) -> bytes:
     return found if len(found) >= 20 and found[0] >> 4 == 4 and found[0] & 15 >= 5 else b""
 
 
-def found_by_scapy(link: int, octets: bytes) -> bytes:
-    """The same, for a link or a head that scapy knows. Of tunnels only the outer datagram counts."""
-    from scapy.config import conf
-    from scapy.contrib import mpls  # noqa: F401
-    from scapy.layers import dot11, inet, inet6, l2, ppp  # noqa: F401
+def with_length(datagram: bytes) -> bytes:
+    """A datagram with its length: a card that segments leaves the length 0."""
+    if datagram and datagram[2:4] == b"\0\0" and datagram[9] == TCP and len(datagram) < 1 << 16:
+        return datagram[:2] + len(datagram).to_bytes(2) + datagram[4:]
+    return datagram
 
+
+def whole_of(link: int, octets: bytes) -> tuple[bytes, int]:
+    """The datagram of a frame without what its link put behind it, and its length on the wire."""
+    datagram = with_length(datagram_in(link, octets))
+    total = int.from_bytes(datagram[2:4])
+    return datagram[:total] if total >= 20 else datagram, max(total, 20)
+
+
+def found_by_scapy(link: int, octets: bytes) -> bytes:
+    """The same, for a link or a head that scapy knows, where it is there. Of tunnels only the outer datagram counts."""
+    try:
+        from scapy.config import conf
+        from scapy.contrib import mpls  # noqa: F401
+        from scapy.layers import dot11, inet, inet6, l2, ppp  # noqa: F401
+    except ImportError:
+        return b""
     try:
         layer = conf.l2types[link](octets) if link in conf.l2types.num2layer else None
         while layer:

@@ -17,6 +17,8 @@ UDP_TIMEOUT, PING_HOLD, NAME_HOLD, TCP_HOLD, LONG_TIMEOUT, JOIN_HOLD = (n * SECO
 TCP, UDP = 6, 17
 FTP_PORT, DNS_PORT = 21, 53
 FIN, SYN, RST, ACK = 1, 2, 4, 16
+CHANGED = {(TCP, FTP_PORT), (TCP, DNS_PORT), (UDP, DNS_PORT), (UDP, 161), (UDP, 162)}
+"""Ports whose payloads the gateway changes: what it left alone there stands both in what came and in what went out."""
 
 
 def datagram_of(frame: bytes, link: int) -> bytes:
@@ -299,12 +301,19 @@ class Blocks:
     def __init__(self, blocks: Iterable[str]) -> None:
         ranges = sorted((int(block[0]), int(block[-1])) for block in map(IPv4Network, blocks))
         self._firsts = [first for first, _ in ranges]
-        self._lasts = list(accumulate((last for _, last in ranges), lambda one, other: max(one, other)))  # the greatest address of a block and of those before it
+        # The greatest address of a block and of those before it.
+        self._lasts = list(accumulate((last for _, last in ranges), lambda one, other: max(one, other)))
 
     def __contains__(self, address: int) -> bool:
         """Whether an address lies in one of them."""
         place = bisect_right(self._firsts, address)
         return place > 0 and address <= self._lasts[place - 1]
+
+
+def pool_of(settings: dict, side: str) -> tuple[int, int]:
+    """First and last address of a realm's pool."""
+    first, last = (int(IPv4Address(settings[side][f"pool_{end}"])) for end in ("first", "last"))
+    return first, last
 
 
 class Bindings:
@@ -347,6 +356,14 @@ class Bindings:
             for side in (0, 1)
             if one.again >> side & 1
         }
+
+    def held_by(self, side: int, host: int) -> Binding | None:
+        """The binding of a host, though it may have ended."""
+        return self._hosts.get((side, host))
+
+    def is_same(self, address: int) -> bool:
+        """Whether an address means the same host in both realms."""
+        return address in self._same
 
     def _bind(self, binding: Binding, moment: int) -> None:
         """A host and its alias forget whom they stood for before."""
@@ -465,11 +482,3 @@ class Bindings:
         if len(self._connections) > self._many:
             self._connections = {key: one for key, one in self._connections.items() if moment < one.end}
             self._many = 1024 + 2 * len(self._connections)
-
-
-def statics(rows: Iterable[Binding]) -> str:
-    """Hosts with their aliases as tables for the settings."""
-    return "".join(
-        f'\n[[static]]\nside = "{SIDES[one.side]}"\nhost = "{IPv4Address(one.host)}"\nalias = "{IPv4Address(one.alias)}"\n'
-        for one in sorted(rows, key=lambda one: (one.side, one.host))
-    )

@@ -33,6 +33,7 @@ HELP = f"""usage: rendapil [--quiet] COMMAND WORDS
   explain [OPTIONS] {WORDS_OF_RUN}
                                                   who had which address, and why frames were refused
   try CAPTURE [--left BLOCK.. [OPTIONS]]          makes two realms of one ordinary capture, and shows what happens
+  plan LEFT RIGHT [OPTIONS]                       two networks before a merger: what overlaps, which settings they need, and what will break
   test                                            tests the program and the tools
 {PROVES}  --version | --program                           which program this is; where it is
   COMMAND --help                                  more about a command
@@ -59,20 +60,22 @@ says whether the one before was the same. Needs rt, the tool of Rattle.""",
 }
 """What a command does that is no tool of its own."""
 
-TOOLS = ("check", "explain", "try")
-"""The commands that are tools of their own, and take any words."""
+TOOLS = {
+    "check": "rendapil.check.settings",
+    "explain": "rendapil.explain.command",
+    "try": "rendapil.trying.command",
+    "plan": "rendapil.planning.command",
+}
+"""The commands that are tools of their own, and take any words, each with its module."""
 
 
 def tool(name: str, words: list[str]) -> int:
     """Runs a tool. It is loaded only here, since the others don't need it."""
+    import importlib
+
     sys.argv = [f"rendapil {name}", *words]
-    if name == "check":
-        from rendapil.check.settings import main
-    elif name == "explain":
-        from rendapil.explain.command import main
-    else:
-        from rendapil.trying.command import main
-    return main()
+    status: int = importlib.import_module(TOOLS[name]).main()
+    return status
 
 
 def prove() -> int:

@@ -19,14 +19,19 @@ MOMENTS = 10**9 << 32
 """Where the moments end that a capture's stamps can tell: in the year 2106."""
 
 TEXT = re.compile(rb"(\d{1,19}) (left|right) (\d{1,19}) ([A-Z][A-Za-z0-9]{1,30}|pass|held) (\d{1,9})\n")
-JSON = re.compile(rb'\{"event":(\d{1,19}),"frames":(\d{1,9}),"moment":(\d{1,19}),"side":"(left|right)","verdict":"([A-Z][A-Za-z0-9]{1,30}|pass|held)"\}\n')
+JSON = re.compile(
+    rb'\{"event":(\d{1,19}),"frames":(\d{1,9}),"moment":(\d{1,19}),"side":"(left|right)","verdict":"([A-Z][A-Za-z0-9]{1,30}|pass|held)"\}\n'
+)
 DONE = re.compile(rb'(?:done( [a-z_]+=\d{1,19})+|\{"done":true(,"[a-z_]+":\d{1,19})+\})\n')
 SIDES = {b"left": 0, b"right": 1}
 
 
 def shown(name: str) -> str:
     """A file's name, or another text from outside, with all that isn't printable escaped."""
-    return "".join(one if one.isprintable() else one.encode("utf-8", "backslashreplace").decode() if "\ud800" <= one <= "\udfff" else repr(one)[1:-1] for one in name)
+    return "".join(
+        one if one.isprintable() else one.encode("utf-8", "backslashreplace").decode() if "\ud800" <= one <= "\udfff" else repr(one)[1:-1]
+        for one in name
+    )
 
 
 def escape_output() -> None:
@@ -38,7 +43,23 @@ def escape_output() -> None:
 def unforeseen(error: Exception) -> str:
     """What is told of a fault of a tool itself."""
     *_, place = traceback.extract_tb(error.__traceback__)
-    return f"a fault of this tool, and not of your files: {type(error).__name__} at {os.path.basename(place.filename)}:{place.lineno}. Please report it"
+    return (
+        f"a fault of this tool, and not of your files: {type(error).__name__} at {os.path.basename(place.filename)}:{place.lineno}. Please report it"
+    )
+
+
+HEAD, RECORD_HEAD = struct.Struct("<IHHiIII"), struct.Struct("<IIII")
+"""The heads of a capture and of its records, as they are written here."""
+
+
+def bare_head() -> bytes:
+    """The head of a capture of bare datagrams with stamps in nanoseconds."""
+    return HEAD.pack(0xA1B23C4D, 2, 4, 0, 0, RECORD, RAW_IP)
+
+
+def record_head(moment: int, size: int, length: int) -> bytes:
+    """The head of a record of such a capture: how many bytes follow, and how many the frame had on the wire."""
+    return RECORD_HEAD.pack(*divmod(moment, 1_000_000_000), size, length)
 
 
 class Frame(NamedTuple):

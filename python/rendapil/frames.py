@@ -17,6 +17,9 @@ FLAGS = "FSRPAUEC"
 TEXT = 300
 """The most characters of a line that are shown."""
 
+ESCAPED = {octet: f"\\x{octet:02x}" for octet in range(256) if not 32 <= octet < 127}
+"""How octets are written that aren't printable ASCII."""
+
 SECRET, HIDDEN = re.compile(rb"(?i)^(PASS|ACCT) .*", re.DOTALL), "(hidden)"
 """A line of FTP that gives a password, and what is shown in place of it."""
 
@@ -39,7 +42,7 @@ class Event:
 
 def plain(octets: bytes) -> str:
     """Octets as text of one line: those that aren't printable ASCII are written as \\x1b."""
-    text = "".join(chr(octet) if 32 <= octet < 127 else f"\\x{octet:02x}" for octet in octets[:TEXT])
+    text = octets[:TEXT].decode("latin-1").translate(ESCAPED)
     return text if len(octets) <= TEXT else f"{text}… and {len(octets) - TEXT} bytes more"
 
 
@@ -183,11 +186,6 @@ def verdicts_of() -> dict[str, Verdict]:
 # What changed.
 
 
-def tokens(line: str) -> list[str]:
-    """Numbers, and the characters between them."""
-    return re.findall(r"\d+|\D", line)
-
-
 class Piece(NamedTuple):
     """A part of a line, and whether it changed."""
 
@@ -195,17 +193,26 @@ class Piece(NamedTuple):
     changed: bool
 
 
+def alike(line: str, other: str) -> int:
+    """How many characters two lines begin with alike, where no number is parted. Lines are long, and halving is quick."""
+    front, most = 0, min(len(line), len(other))
+    while front < most:
+        middle = (front + most + 1) // 2
+        if line[front:middle] == other[front:middle]:
+            front = middle
+        else:
+            most = middle - 1
+    while front and line[front - 1].isdecimal() and any(one[front : front + 1].isdecimal() for one in (line, other)):
+        front -= 1
+    return front
+
+
 def changed_pieces(line: str, other: str) -> list[Piece]:
     """A line in three parts: what is alike in front, what isn't, and what is alike behind."""
-    mine, yours = tokens(line), tokens(other)
-    front = 0
-    while front < min(len(mine), len(yours)) and mine[front] == yours[front]:
-        front += 1
-    back = 0
-    while back < min(len(mine), len(yours)) - front and mine[-1 - back] == yours[-1 - back]:
-        back += 1
-    parts = mine[:front], mine[front : len(mine) - back], mine[len(mine) - back :]
-    return [Piece("".join(part), place == 1) for place, part in enumerate(parts) if part]
+    front = alike(line, other)
+    behind = len(line) - alike(line[front:][::-1], other[front:][::-1])
+    parts = line[:front], line[front:behind], line[behind:]
+    return [Piece(part, place == 1) for place, part in enumerate(parts) if part]
 
 
 def compared(lines: list[str], others: list[str]) -> list[list[Piece]]:

@@ -4,7 +4,11 @@ from typing import NamedTuple
 
 from rendapil.files import ETHERNET, FORMS, RAW_IP
 
-HEADS = {b"\x0a\x0d\x0d\x0a": "a pcapng file", b"\x34\xcd\xb2\xa1": "a capture with longer record heads", b"\xa1\xb2\xcd\x34": "a capture with longer record heads"}
+HEADS = {
+    b"\x0a\x0d\x0d\x0a": "a pcapng file",
+    b"\x34\xcd\xb2\xa1": "a capture with longer record heads",
+    b"\xa1\xb2\xcd\x34": "a capture with longer record heads",
+}
 PACKED = {b"\x1f\x8b": ("gzip", "gunzip -c"), b"\x28\xb5\x2f\xfd": ("zstd", "zstd -dc"), b"\xfd\x37\x7a\x58": ("xz", "xz -dc")}
 LOOPBACK, BARE, COOKED = ", loopback", ", IPv4 alone", ", as tcpdump -i any gives it"
 LINKS = {

@@ -14,10 +14,20 @@ def is_host(address: int) -> bool:
     return address >> 24 not in (0, 127) and address >> 24 < 224
 
 
+def is_private(address: int) -> bool:
+    """Whether an address is of a private block, or of one for carriers."""
+    return address >> 24 == 10 or address >> 20 == 0xAC1 or address >> 16 == 0xC0A8 or address >> 22 == 0x191
+
+
 def total_of(octets: bytes) -> int:
     """The ones' complement sum of octets."""
     number = int.from_bytes(octets + bytes(len(octets) % 2))
     return number % 0xFFFF or (0xFFFF if number else 0)
+
+
+def header_sum(head: bytes) -> int:
+    """The checksum of an IPv4 header, whatever stands in its place."""
+    return ~total_of(head[:10] + bytes(2) + head[12:]) & 0xFFFF
 
 
 def adjusted(old_sum: int, old: bytes, new: bytes) -> int:
@@ -78,10 +88,10 @@ class Packet:
 
     def mend(self) -> bool:
         """Computes the sums of a whole datagram anew, as a sender without offloading would. Where only its first fragment is there, and the
-        header's sum is wrong, or UDP's is that of the pseudo header, which offloading leaves, it has none then, as UDP allows. Says whether one was wrong."""
+        header's sum is wrong, or UDP's is that of the pseudo header, which offloading leaves, it has none then, as UDP allows. Says whether one was wrong.
+        """
         before = bytes(self.octets)
-        self.octets[10:12] = bytes(2)
-        self.octets[10:12] = (~total_of(bytes(self.octets[: self.head])) & 0xFFFF).to_bytes(2)
+        self.octets[10:12] = header_sum(bytes(self.octets[: self.head])).to_bytes(2)
         place = self._sum_place()
         if place is not None and self.is_whole and not self.is_fragment:
             self.octets[place : place + 2] = bytes(2)

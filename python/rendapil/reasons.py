@@ -60,7 +60,9 @@ def looks_like(path: str, slot: str) -> str:
         return "" if slot == "settings" or b"\0" in front else "it is text. Are the words in their order?"
     if kind.command:
         return f"it {kind.what}: {kind.command}"
-    return f"it {kind.what}" + {"": ". Are the words in their order?", "Link": ": capture on an Ethernet interface or a tun device"}.get(kind.fault, "")
+    return f"it {kind.what}" + {"": ". Are the words in their order?", "Link": ": capture on an Ethernet interface or a tun device"}.get(
+        kind.fault, ""
+    )
 
 
 def slot_of(line: str) -> str:
@@ -134,7 +136,9 @@ def tell_by(module: str, *words: str, seconds: float) -> None:
     with contextlib.suppress(subprocess.TimeoutExpired):
         command = [sys.executable, "-m", module, *words]
         how: dict[str, Any] = {"env": {**os.environ, "PYTHONPATH": str(TOP / "python")}, "stdin": subprocess.DEVNULL, "stderr": subprocess.DEVNULL}
-        for line in subprocess.run(command, stdout=subprocess.PIPE, text=True, errors="replace", timeout=seconds, check=False, **how).stdout.splitlines():
+        for line in subprocess.run(
+            command, stdout=subprocess.PIPE, text=True, errors="replace", timeout=seconds, check=False, **how
+        ).stdout.splitlines():
             say(line)
 
 

@@ -31,6 +31,10 @@ def hint(text: str) -> None:
         say(text)
 
 
+class Fault(Exception):
+    """What a tool tells the user, on one line, at its end."""
+
+
 class Stop(Exception):
     """Ends the command with a status, and with a sentence if there is one. `line` is what the program would have said."""
 

@@ -15,7 +15,9 @@ from typing import TYPE_CHECKING
 from rendapil.any_capture import IPV4, TAGS
 from rendapil.files import ETHERNET, FORMS, RECORD, shown
 from rendapil.kinds import by_head
-from rendapil.packet import SUM_AT, Packet, is_host
+from rendapil.packet import SUM_AT, Packet, is_host, is_private
+from rendapil.payloads.applications import BREAKS
+from rendapil.payloads.scan import ALIAS, HOST, MAYBE, PRIVATE, Meaning, Meant, Scan, example_of
 
 if TYPE_CHECKING:
     from rendapil.check.settings import Realms
@@ -38,8 +40,9 @@ def unreadable(head: bytes, old: str) -> str:
 
 @dataclass
 class Looked:
-    """What was seen in the first frames of a capture: how many there are, how many of each kind, and a digest of their bytes."""
+    """What was seen in the first frames of a capture: how many there are, how many of each kind, what their payloads say, and a digest of their bytes."""
 
+    scan: Scan | None = None
     total: int = 0
     count: Counter[str] = field(default_factory=Counter)
     digest: bytes = b""
@@ -48,7 +51,8 @@ class Looked:
 
 def look_at(path: str, side: str, realms: "Realms", most: int) -> Looked:
     """Looks at the first frames of a capture. `realms` are the settings."""
-    looked, digest = Looked(), hashlib.sha256()
+    scan, digest = Scan(meaning_by(realms), True), hashlib.sha256()
+    looked = Looked(scan)
     with open(path, "rb") as file:
         head = file.read(24)
         if fault := unreadable(head, shlex.quote(path)):
@@ -68,9 +72,32 @@ def look_at(path: str, side: str, realms: "Realms", most: int) -> Looked:
                 break
             looked.total += 1
             digest.update(record[8:] + octets)
-            looked.count[kind_of(octets, link, length, side, realms)] += 1
+            kind = kind_of(octets, link, length, side, realms)
+            looked.count[kind] += 1
+            if kind == "good":
+                datagram = octets[14:] if link == ETHERNET else octets
+                scan.take(looked.total, 0 if side == "left" else 1, datagram, [datagram])
     looked.digest = digest.digest()
     return looked
+
+
+def meaning_by(realms: "Realms") -> Meaning:
+    """Whom addresses mean by the settings alone."""
+    names: tuple[tuple[dict[int, int], dict[int, int]], ...] = ({}, {}), ({}, {})
+    for side, host, alias in realms.statics:
+        number = 0 if side == "left" else 1
+        names[number][0][int(host)] = int(alias)
+        names[1 - number][1][int(alias)] = int(host)
+
+    def meaning(side: int, address: int) -> Meant | None:
+        if not is_host(address) or realms.is_in_same(IPv4Address(address)):
+            return None
+        if realms.is_in_pool("right" if side else "left", IPv4Address(address)):
+            return Meant(ALIAS, names[side][1].get(address, 0))
+        known = names[side][0].get(address, 0)
+        return Meant(HOST, known) if known else Meant(PRIVATE, 0) if is_private(address) else None
+
+    return meaning
 
 
 def kind_of(octets: bytes, link: int, length: int, side: str, realms: "Realms") -> str:
@@ -150,6 +177,16 @@ def told(paths: list[str], realms: "Realms", most: int = LOOKED_AT) -> Iterator[
         for kind, count in looked.count.most_common():
             if kind in known and count:
                 yield f"{shown(path)}: {count} {which} frames {known[kind][0]}. {shown(known[kind][1])}"
+    for path, looked in zip(paths, found):
+        if looked.scan:
+            yield from islice(told_of_payloads(path, looked.scan), 5)
+
+
+def told_of_payloads(path: str, scan: Scan) -> Iterator[str]:
+    """A line for each application that will break since its payloads carry addresses."""
+    for row in scan.rows():
+        if row.app.of.weight == BREAKS and row.sure != MAYBE:
+            yield f"{shown(path)}: payloads of {row.app.name} carry addresses that the gateway leaves alone: {example_of(row.sites[0], True)}. What helps: {row.app.of.todo}"
 
 
 def is_one_capture(paths: list[str], found: list[Looked]) -> bool:

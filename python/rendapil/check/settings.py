@@ -75,7 +75,7 @@ def are_blocks(texts: list[str]) -> bool:
 
 def is_prefix(text: str) -> bool:
     """Whether a text is the front of an object identifier."""
-    if not re.fullmatch(r"(0|[1-9][0-9]*)(\.(0|[1-9][0-9]*)){1,63}", text):
+    if not re.fullmatch(r"(0|[1-9][0-9]{0,9})(\.(0|[1-9][0-9]{0,9})){1,63}", text):
         return False
     first, second, *others = map(int, text.split("."))
     return first <= 2 and second <= (39 if first < 2 else 4_294_967_215) and all(arc <= 4_294_967_295 for arc in others)
@@ -274,6 +274,19 @@ def read(octets: bytes) -> tuple[dict, list[str]]:
         return {}, [f"NotToml: {error}"]
 
 
+def document_of(path: str) -> tuple[dict, str]:
+    """What a settings file without faults says, and its text. Fault where it has some: only `check` tells them."""
+    with open(path, "rb") as file:
+        octets = file.read(LIMIT + 1)
+    document, faults = read(octets)
+    if faults or list(faults_of_keys(document)):
+        from rendapil.files import shown
+        from rendapil.sayings import Fault
+
+        raise Fault(f"{shown(path)} has faults: 'rendapil check' tells them")
+    return document, octets.removeprefix(b"\xef\xbb\xbf").decode()
+
+
 def faults_of_captures(paths: list[str], realms: Realms) -> Iterator[str]:
     """What of the frames of both captures will be refused."""
     from rendapil.check.captures import told
@@ -283,7 +296,10 @@ def faults_of_captures(paths: list[str], realms: Realms) -> Iterator[str]:
 
 def plain(text: str) -> str:
     """A text without control characters, for terminals."""
-    return "".join(one if one.isprintable() else f"\\x{ord(one) & 0xFF:02x}" if ord(one) < 256 or "\udc80" <= one <= "\udcff" else f"\\u{ord(one):04x}" for one in text)
+    return "".join(
+        one if one.isprintable() else f"\\x{ord(one) & 0xFF:02x}" if ord(one) < 256 or "\udc80" <= one <= "\udcff" else f"\\u{ord(one):04x}"
+        for one in text
+    )
 
 
 def lines_of(settings: str, captures: list[str], brief: bool) -> list[str]:
@@ -317,7 +333,9 @@ def main() -> int:
     """Checks each file, and says whether there is anything to mind."""
     parser = argparse.ArgumentParser(prog="rendapil check", description=__doc__)
     parser.add_argument("settings", metavar="SETTINGS", help="a file, or - for standard input")
-    parser.add_argument("more", metavar="FILE", nargs="*", help="LEFT_IN and RIGHT_IN, whose frames are looked at by these settings, or more SETTINGS")
+    parser.add_argument(
+        "more", metavar="FILE", nargs="*", help="LEFT_IN and RIGHT_IN, whose frames are looked at by these settings, or more SETTINGS"
+    )
     parser.add_argument("--brief", action="store_true", help="tell the unknown keys and the faults alone")
     words = parser.parse_args()
     captures = words.more if len(words.more) == 2 else []

@@ -11,14 +11,20 @@ import tomllib
 from collections.abc import Callable, Iterable, Iterator
 from dataclasses import asdict
 from ipaddress import IPv4Address
-from typing import Any, NoReturn
+from typing import TYPE_CHECKING, Any
 
-from rendapil.bindings import SECOND, SIDES, Binding, Pool, statics
-from rendapil.other_python import has
-from rendapil.files import Capture, escape_output, shown, unforeseen
-from rendapil.frames import second_of, time_of, verdicts_of
+from rendapil.bindings import SECOND, SIDES, Binding, Pool
+from rendapil.check.settings import document_of
+from rendapil.ending import ended
 from rendapil.explain.story import Row, Story, named
-from rendapil.check.settings import LIMIT, faults_of_keys, read
+from rendapil.files import Capture, shown
+from rendapil.frames import second_of, time_of, verdicts_of
+from rendapil.other_python import has
+from rendapil.sayings import Fault
+from rendapil.settings_text import statics
+
+if TYPE_CHECKING:
+    from rendapil.payloads.scan import Scan
 
 SHOWN, SHOWN_BINDINGS = 20, 1000
 """The most rows of what was refused, and of bindings, that are shown as text."""
@@ -31,10 +37,6 @@ FILES = {
     "right_out": "that of what it sent to the right realm",
     "report": "the report, or - for standard input",
 }
-
-
-class Fault(Exception):
-    """What is told to the user, on one line, at the end."""
 
 
 # As text.
@@ -61,12 +63,18 @@ def tell_pool(side: str, pool: Pool) -> None:
 def tell_bindings(story: Story) -> None:
     """Who had which alias."""
     used = story.used()
-    rows = used if len(used) <= SHOWN_BINDINGS else sorted(sorted(used, key=lambda one: -one.uses)[:SHOWN_BINDINGS], key=lambda one: (one.side, one.host, one.first))
+    rows = (
+        used
+        if len(used) <= SHOWN_BINDINGS
+        else sorted(sorted(used, key=lambda one: -one.uses)[:SHOWN_BINDINGS], key=lambda one: (one.side, one.host, one.first))
+    )
     if rows:
         print(f"\n{'Host':22}{'Alias on the other side':25}{'First use':21}{'Last use':19}{'Uses':>9}")
     for one in rows:
         way = "fixed" if one.fixed else "by use"
-        print(f"{SIDES[one.side]:6}{IPv4Address(one.host)!s:16}{IPv4Address(one.alias)!s:16}{way:9}{clock(one.first):21}{clock(one.last)}{one.uses:9}")
+        print(
+            f"{SIDES[one.side]:6}{IPv4Address(one.host)!s:16}{IPv4Address(one.alias)!s:16}{way:9}{clock(one.first):21}{clock(one.last)}{one.uses:9}"
+        )
     if len(rows) < len(used) + story.left_out:
         print(f"and {len(used) + story.left_out - len(rows)} bindings more with fewer uses: --json gives {len(used)}")
 
@@ -86,7 +94,14 @@ def tell_refusals(story: Story) -> None:
         print(f"and {len(rows) - len(shown_rows)} rows more: --json gives all")
 
 
-def tell(story: Story) -> None:
+def tell_payloads(scan: "Scan") -> None:
+    """Which applications have addresses in their payloads that the gateway leaves alone."""
+    from rendapil.payloads.scan import lines_of
+
+    print(*lines_of(scan), sep="\n")
+
+
+def tell(story: Story, scan: "Scan") -> None:
     """All of it as text."""
     print(story.end)
     print(f"{clock(story.first)} to {clock(story.last)} UTC" if story.first else "no events")
@@ -94,6 +109,8 @@ def tell(story: Story) -> None:
         tell_pool(side, pool)
     tell_bindings(story)
     tell_refusals(story)
+    print()
+    tell_payloads(scan)
     if missed := story.missed + story.table.missed:
         print(f"\nFrames that could not be followed: {missed}. What is said of bindings may be wrong from the first of them on")
 
@@ -108,7 +125,13 @@ def times(row: object, *names: str) -> dict[str, str | None]:
 
 def binding_row(one: Binding) -> dict[str, object]:
     """A binding as JSON."""
-    return {**asdict(one), "side": SIDES[one.side], "host": str(IPv4Address(one.host)), "alias": str(IPv4Address(one.alias)), **times(one, "first", "last")}
+    return {
+        **asdict(one),
+        "side": SIDES[one.side],
+        "host": str(IPv4Address(one.host)),
+        "alias": str(IPv4Address(one.alias)),
+        **times(one, "first", "last"),
+    }
 
 
 def refused_row(verdict: str, side: str, host: str, row: Row) -> dict[str, object]:
@@ -118,17 +141,26 @@ def refused_row(verdict: str, side: str, host: str, row: Row) -> dict[str, objec
     return {**whole, **times(row, "first", "last"), "for": to, "for_others": row.count - sum(to.values())}
 
 
-def tell_json(story: Story) -> None:
+def tell_json(story: Story, scan: "Scan") -> None:
     """All of it as one JSON object, a row a line, its moments in nanoseconds since 1970."""
+    from rendapil.payloads.scan import told_rows
+
     pools: dict[str, dict[str, object]] = {
-        side: {"addresses": pool.size, "fixed": pool.fixed, "most": pool.most, "most_at": pool.most_at, "most_time": times(pool, "most_at")["most_at_time"]}
+        side: {
+            "addresses": pool.size,
+            "fixed": pool.fixed,
+            "most": pool.most,
+            "most_at": pool.most_at,
+            "most_time": times(pool, "most_at")["most_at_time"],
+        }
         for side, pool in zip(SIDES, story.table.pools)
     }
     whole = {"first": story.first, "last": story.last, **times(story, "first", "last"), "end": story.end, "heartbeats": story.heartbeats}
     whole |= {"missed": story.missed + story.table.missed, "bindings_left_out": story.left_out, "pools": pools}
     print("{" + ",\n".join(f" {json.dumps(key)}: {json.dumps(value)}" for key, value in whole.items()) + ",")
     print_rows("bindings", map(binding_row, story.used()), ",")
-    print_rows("refused", (refused_row(*row) for row in story.refusals.rows()), "")
+    print_rows("refused", (refused_row(*row) for row in story.refusals.rows()), ",")
+    print_rows("payloads", (row._asdict() for row in told_rows(scan)), "")
     print("}")
 
 
@@ -204,16 +236,6 @@ def written(path: str, mode: str) -> Iterator[Any]:
             raise
 
 
-def document_of(path: str) -> tuple[dict, str]:
-    """What a settings file says, and its text."""
-    with open(path, "rb") as file:
-        octets = file.read(LIMIT + 1)
-    document, faults = read(octets)
-    if faults or list(faults_of_keys(document)):
-        raise Fault(f"{shown(path)} has faults: 'rendapil check' tells them")
-    return document, octets.removeprefix(b"\xef\xbb\xbf").decode()
-
-
 def refuse_words(files: dict[str, str], outputs: list[str]) -> None:
     """Ends where a word can't be meant."""
     for name, path in files.items():
@@ -257,11 +279,25 @@ def parsed() -> argparse.Namespace:
     forms = parser.add_mutually_exclusive_group()
     forms.add_argument("--json", action="store_true", help="write all as JSON, with moments in nanoseconds since 1970 and by RFC 3339")
     forms.add_argument("--events", action="store_true", help="write a line of JSON for each frame, with fields as in Suricata's eve.json")
+    forms.add_argument(
+        "--payloads", action="store_true", help="write which applications have addresses in their payloads that the gateway leaves alone"
+    )
     forms.add_argument("--statics", action="store_true", help="write the hosts with aliases by use as [[static]] tables")
-    parser.add_argument("--settings", metavar="NEW", dest="new_settings", help="write the settings with these tables to NEW, and nothing to standard output")
+    parser.add_argument(
+        "--settings", metavar="NEW", dest="new_settings", help="write the settings with these tables to NEW, and nothing to standard output"
+    )
     parser.add_argument("--html", metavar="FILE", help="write a page with pictures of the run to FILE, and nothing to standard output")
     parser.add_argument("--pcapng", metavar="FILE", help="write all four captures to FILE as one, with comments, and nothing to standard output")
     return parser.parse_args()
+
+
+def looked_into(story: Story) -> "Scan":
+    """What looks at the payloads of a run. It is loaded only here, since most forms don't need it."""
+    from rendapil.payloads.scan import Scan, meaning_in
+
+    scan = Scan(meaning_in(story.table))
+    story.behinds.append(scan.event)
+    return scan
 
 
 def explain(words: argparse.Namespace) -> None:
@@ -273,6 +309,8 @@ def explain(words: argparse.Namespace) -> None:
         raise Fault("--html needs jinja2: apt-get install python3-jinja2")
     document, text = document_of(words.settings)
     story = Story(document)
+    is_looked_into = words.html or words.payloads or words.json or not (outputs or words.events or words.statics)
+    scan = looked_into(story) if is_looked_into else None
     verdicts = verdicts_of()
     with contextlib.ExitStack() as behind:
         if words.pcapng:
@@ -297,43 +335,34 @@ def explain(words: argparse.Namespace) -> None:
         story.read(left_in, right_in, left_out, right_out, report, told)
         if told:
             print("\033[K", end="", file=sys.stderr, flush=True)
-        if words.html:
-            page = Page(verdicts, {name: shown(path) for name, path in files.items()}).written(gathered, story)
+        if words.html and scan:
+            page = Page(verdicts, {name: shown(path) for name, path in files.items()}).written(gathered, story, scan)
             behind.enter_context(written(words.html, "w")).write(page)
     if words.new_settings:
         with written(words.new_settings, "w") as file:
             file.write(settings_with(text, worth_keeping(story)))
     if words.statics:
         print(statics(worth_keeping(story)), end="")
-    elif words.json:
-        tell_json(story)
-    elif not (outputs or words.events):
-        tell(story)
+    elif scan and words.payloads:
+        tell_payloads(scan)
+    elif scan and words.json:
+        tell_json(story, scan)
+    elif scan and not (outputs or words.events):
+        tell(story, scan)
 
 
-def fail(text: str) -> NoReturn:
-    """Ends with a line, in place of how far the reading is."""
-    sys.exit(("\033[K" if sys.stderr.isatty() else "") + f"rendapil explain: {text}")
+def explain_files(words: argparse.Namespace) -> int:
+    """Explains, where these are the files of a run. The status."""
+    try:
+        explain(words)
+        return 0
+    except ValueError as error:
+        raise Fault(f"these aren't files of one run: {error}") from None
 
 
 def main() -> int:
-    """Reads the words, and does it."""
-    escape_output()
-    try:
-        explain(parsed())
-        sys.stdout.flush()
-        return 0
-    except (Fault, ValueError) as error:
-        fail(f"these aren't files of one run: {error}" if isinstance(error, ValueError) else str(error))
-    except OSError as error:
-        sys.stdout = open(os.devnull, "w")  # nothing more goes there
-        fail(f"{shown(str(error.filename or 'standard output'))}: {error.strerror}")
-    except KeyboardInterrupt:
-        sys.exit(130)
-    except MemoryError:
-        fail("out of memory")
-    except Exception as error:  # noqa: BLE001: no traceback has what stands in a capture
-        fail(unforeseen(error))
+    """Reads the words, and does it. The status."""
+    return ended("explain", lambda: explain_files(parsed()))
 
 
 if __name__ == "__main__":

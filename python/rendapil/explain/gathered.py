@@ -145,7 +145,9 @@ class Session:
         """The numbers of a segment, and whether they are other than those of one of the others."""
         words = [(f"seq {self.relative(side, segment.sequence)}", any(segment.sequence != one.sequence for one in others))]
         if segment.bits & ACK:
-            words.append((f"ack {self.relative(1 - side, segment.acknowledgement)}", any(segment.acknowledgement != one.acknowledgement for one in others)))
+            words.append(
+                (f"ack {self.relative(1 - side, segment.acknowledgement)}", any(segment.acknowledgement != one.acknowledgement for one in others))
+            )
         words.append((f"len {len(segment.payload)}", any(len(segment.payload) != len(one.payload) for one in others)))
         return Numbers(segment.flags, [Piece(*word) for word in words])
 

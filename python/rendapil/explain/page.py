@@ -10,6 +10,7 @@ from rendapil.frames import Verdict
 from rendapil.explain.gathered import PARTS, Gathered, Parts
 from rendapil.explain.pictures import BOTTOM, HEIGHT, LEFT, TOP, WIDTH, Axis, Picture, Tick, clock, filled, span, stacked
 from rendapil.explain.story import Story
+from rendapil.payloads.scan import Scan, summary_of, told_rows
 
 SHOWN_BINDINGS, SHOWN_REFUSED = 500, 100
 """The most rows of each table."""
@@ -104,13 +105,16 @@ class Page:
             found.append((kind, pictures))
         return found
 
-    def written(self, run: Gathered, story: Story) -> str:
+    def written(self, run: Gathered, story: Story, scan: Scan) -> str:
         """The page."""
         from jinja2 import Environment, FileSystemLoader, StrictUndefined
 
         room = Environment(
-            autoescape=True, loader=FileSystemLoader(os.path.dirname(os.path.realpath(__file__))), undefined=StrictUndefined,
-            trim_blocks=True, lstrip_blocks=True,
+            autoescape=True,
+            loader=FileSystemLoader(os.path.dirname(os.path.realpath(__file__))),
+            undefined=StrictUndefined,
+            trim_blocks=True,
+            lstrip_blocks=True,
         )
         for parts in (run.by_time, run.by_number):
             parts.join_to(max(30, min(PARTS, sum(run.counts.values()))))
@@ -119,6 +123,7 @@ class Page:
         most_used = sorted(used, key=lambda one: -one.uses)[:SHOWN_BINDINGS]
         axis = self.axes(run)[0][2]
         style, script = (self._part(room, name) for name in ("page.css", "page.js"))
+        payloads = told_rows(scan)
         total, refused = sum(run.counts.values()), sum(count for _, count in reasons)
         return room.get_template("page.html").render(
             {
@@ -134,6 +139,7 @@ class Page:
                 "bindings_count": len(used) + story.left_out,
                 "refused": story.refusals.rows(SHOWN_REFUSED),
                 "refused_count": len(story.refusals.rows()),
+                **{"payloads": payloads, "payloads_said": summary_of(scan, payloads)},
                 "missed": story.missed + story.table.missed,
                 "sessions": run.sessions.shown,
                 **{"style": style[0], "style_hash": style[1], "script": script[0], "script_hash": script[1]},

@@ -153,7 +153,9 @@ def filled(name: str, said: str, parts: Parts, axis: Axis, side: int, size: int,
         level = part.most[side]
         path.append(f"{'M' if not place else 'L'}{axis.at(start):.1f} {height(level, top):.1f}H{min(WIDTH, axis.at(end)):.1f}")
         lost = f"; {part.empty[side]:,} frames refused as PoolEmpty" if part.empty[side] else ""
-        told.append((round(axis.at(start), 1), round(axis.at(end) - axis.at(start), 2), f"{axis.name(start, end)}: at most {level:,} of {size:,}{lost}"))
+        told.append(
+            (round(axis.at(start), 1), round(axis.at(end) - axis.at(start), 2), f"{axis.name(start, end)}: at most {level:,} of {size:,}{lost}")
+        )
         if part.empty[side]:
             marks.append((round(axis.at(start), 1), round(max(2.0, axis.at(end) - axis.at(start)), 1)))
     line = "".join(path)

@@ -13,25 +13,23 @@ from collections import Counter
 from collections.abc import Iterable, Iterator
 from importlib.util import find_spec
 from ipaddress import IPv4Network, collapse_addresses
-from typing import BinaryIO, NoReturn
+from typing import BinaryIO
 
 from rendapil.any_capture import datagram_in, records
+from rendapil.ending import ended
+from rendapil.files import lines, shown
+from rendapil.frames import verdicts_of
 from rendapil.other_python import debian_has, has
 from rendapil.packet import is_host
 from rendapil.places import TOP
-from rendapil.files import escape_output, lines, shown, unforeseen
-from rendapil.frames import verdicts_of
-from rendapil.trying.two_realms import TwoRealms, write_captures
+from rendapil.sayings import Fault
+from rendapil.trying.two_realms import TwoRealms, block, write_captures
 
 NAMES = ("settings.toml", "left.pcap", "right.pcap", "left-out.pcap", "right-out.pcap", "report.txt", "run.html", "run.pcapng")
 PAIRS = 20_000
 """The most pairs of hosts that are counted."""
 
 Pairs = Counter[tuple[IPv4Network, IPv4Network]]
-
-
-class Fault(Exception):
-    """What is told to the user, on one line, at the end."""
 
 
 # Who speaks with whom.
@@ -80,6 +78,19 @@ def parted(pairs: Pairs) -> tuple[list[IPv4Network], int]:
     return list(collapse_addresses(left)), crossing
 
 
+def names_to_keep(capture: str, left: list[IPv4Network]) -> list[IPv4Network]:
+    """The public addresses that DNS over TCP names, if as many frames cross where these mean the same hosts in both realms: answers keep their length
+    then, and the acknowledgements of the capture fit."""
+    realms = TwoRealms(left, [], True)
+    realms.survey(records(capture))
+    names = realms.public_names()
+    if names:
+        kept = TwoRealms(left, names, True)
+        kept.survey(records(capture))
+        return names if kept.crossed == realms.crossed else []
+    return names
+
+
 def tell_pairs(capture: str, name: str) -> None:
     """Lists who speaks with whom, and the command that makes two realms of them."""
     hosts, more = pairs_of(capture)
@@ -98,8 +109,11 @@ def tell_pairs(capture: str, name: str) -> None:
         print(f"{count:8}  " + (f"hosts of {ends[0]}" if one == other else f"{ends[0]} and {ends[1]}"))
     if len(pairs) > 20:
         print(f"{sum(count for _, count in pairs.most_common()[20:]) + more:8}  {len(pairs) - 20:,} pairs more")
-    print(f"\nThe blocks behind --left become one realm, and all other hosts the other one. With these, {crossing} of {hosts.total() + more} frames cross:\n")
-    print(f"  rendapil try {shlex.quote(shown(name))} --left {' '.join(map(str, left))}")
+    print(
+        f"\nThe blocks behind --left become one realm, and all other hosts the other one. With these, {crossing} of {hosts.total() + more} frames cross:\n"
+    )
+    names = names_to_keep(capture, left)
+    print(f"  rendapil try {shlex.quote(shown(name))} --left {' '.join(map(str, left))}{' --same ' if names else ''}{' '.join(map(str, names))}")
 
 
 # What came of it.
@@ -109,9 +123,13 @@ def tell_realms(realms: TwoRealms, counts: list[int], folder: str) -> None:
     """Which hosts and frames cross, what was mended, and what was left out."""
     needy, hosts = sum(host.contacted_first for host in realms.hosts.values()), len(realms.hosts)
     print(f"{sum(counts)} frames cross the gateway, {counts[0]} of the left realm and {counts[1]} of the right one.")
-    print(f"{needy} of {hosts} hosts are contacted before they speak: these need a static. {shown(folder)}/settings.toml is a draft for your own settings.\n")
+    print(
+        f"{needy} of {hosts} hosts are contacted before they speak: these need a static. {shown(folder)}/settings.toml is a draft for your own settings.\n"
+    )
     for what, count in sorted(realms.left_out.items()):
         print(f"{count:8}  frames left out: {what}")
+    if realms.filled:
+        print(f"{realms.filled:8}  frames that the capture has cut, and that were filled up with zeros: their payloads mean nothing")
     if realms.mended:
         print(f"{realms.mended:8}  frames with a checksum that was mended: whoever captures his own frames sees them before his card fills it in")
     if realms.lines:
@@ -129,7 +147,13 @@ def tell_verdicts(verdicts: Counter[str]) -> None:
     means = verdicts_of()
     print()
     for name, count in verdicts.most_common():
-        said = "a fragment that waits for the others of its packet" if name == "held" else f"{means[name].means}. What to do: {means[name].todo}" if name in means else ""
+        said = (
+            "a fragment that waits for the others of its packet"
+            if name == "held"
+            else f"{means[name].means}. What to do: {means[name].todo}"
+            if name in means
+            else ""
+        )
         print(f"{count:8}  {name}{': ' + said if said else ''}")
 
 
@@ -137,10 +161,14 @@ def tell_limits(verdicts: Counter[str], realms: TwoRealms, again: list[str]) -> 
     """Where an open loop bites, and what helps."""
     stuck = verdicts["Gap"] + verdicts["AckAhead"]
     if 10 * stuck > verdicts.total():
-        print(f"\n{stuck} frames are Gap or AckAhead. The hosts of a capture don't answer anew: where the gateway makes a message longer or shorter, or where the")
+        print(
+            f"\n{stuck} frames are Gap or AckAhead. The hosts of a capture don't answer anew: where the gateway makes a message longer or shorter, or where the"
+        )
         print("capture misses a frame, they go on as if nothing had happened. A live gateway doesn't meet this.", end=" ")
         if names := realms.public_names():
-            print(f"Public addresses mean the same hosts in both realms in most networks. So try:\n\n  {shlex.join(again)} --same {' '.join(map(str, names))}")
+            print(
+                f"Public addresses mean the same hosts in both realms in most networks. So try:\n\n  {shlex.join(again)} --same {' '.join(map(str, names))}"
+            )
         else:
             print("Give addresses that mean the same hosts in both realms by --same.")
     if 10 * verdicts["NoSession"] > verdicts.total():
@@ -152,11 +180,6 @@ def tell_limits(verdicts: Counter[str], realms: TwoRealms, again: list[str]) -> 
 # The command.
 
 
-def block(text: str) -> IPv4Network:
-    """A block of addresses, by any address of it."""
-    return IPv4Network(text, strict=False)
-
-
 def parsed() -> argparse.Namespace:
     """The words of the command."""
     end = "The status is 0, or 1 where the capture can't be read or no frame crosses, or 2 where the words are wrong, or that of the run."
@@ -164,8 +187,11 @@ def parsed() -> argparse.Namespace:
     parser.add_argument("capture", metavar="CAPTURE", help="a capture as pcap or pcapng, packed by gzip or not, of any interface")
     parser.add_argument("--left", metavar="BLOCK", nargs="+", type=block, default=[], help="addresses of the left realm, as 10.1.0.0/16")
     parser.add_argument("--same", metavar="BLOCK", nargs="+", type=block, default=[], help="addresses that cross unchanged")
-    parser.add_argument("--pool", metavar="COUNT", type=int, default=0, help="pools of so many addresses, and statics only for hosts that others contact first")
+    parser.add_argument(
+        "--pool", metavar="COUNT", type=int, default=0, help="pools of so many addresses, and statics only for hosts that others contact first"
+    )
     parser.add_argument("--keep-sums", action="store_true", help="keep wrong checksums, as offloading leaves them: such frames are refused")
+    parser.add_argument("--keep-cut", action="store_true", help="keep frames that the capture has cut as they are: they are refused")
     parser.add_argument("--out", metavar="FOLDER", default="rendapil-try", help="where the files go (rendapil-try)")
     parser.add_argument("--program", help=argparse.SUPPRESS)
     words = parser.parse_args()
@@ -204,10 +230,12 @@ def refuse_overwriting(paths: Iterable[str], capture: str) -> None:
 
 def try_it(words: argparse.Namespace, capture: str) -> int:
     """Makes two realms, runs the gateway between them, and tells. The status."""
-    realms = TwoRealms(words.left, words.same, not words.keep_sums, words.pool)
+    realms = TwoRealms(words.left, words.same, not words.keep_sums, words.pool, not words.keep_cut)
     realms.survey(records(capture))
     if not realms.crossed:
-        raise Fault(f"no frame of {shown(words.capture)} goes from one realm to the other: 'rendapil try {shlex.quote(shown(words.capture))}' lists who speaks with whom")
+        raise Fault(
+            f"no frame of {shown(words.capture)} goes from one realm to the other: 'rendapil try {shlex.quote(shown(words.capture))}' lists who speaks with whom"
+        )
     os.makedirs(words.out, exist_ok=True)
     files = {name: os.path.join(words.out, name) for name in NAMES}
     refuse_overwriting(files.values(), words.capture)
@@ -227,45 +255,33 @@ def try_it(words: argparse.Namespace, capture: str) -> int:
     tell_verdicts(verdicts)
     tell_limits(verdicts, realms, ["rendapil", "try", shown(words.capture), "--left", *map(str, words.left)])
     page = ["--html", files["run.html"]] if find_spec("jinja2") or debian_has("jinja2") else []
-    sys.stdout.flush()
-    status = subprocess.run([TOP / "rendapil", "explain", *page, "--pcapng", files["run.pcapng"], *run], check=False).returncode
+    print(flush=True)
+    status = subprocess.run([TOP / "rendapil", "explain", *page, "--payloads", "--pcapng", files["run.pcapng"], *run], check=False).returncode
     look = f"open {shown(files['run.html'])} in a browser" if page else "for a page with pictures: apt-get install python3-jinja2"
     print(f"\nNext: {look}; {shown(files['run.pcapng'])} is for Wireshark, and {shown(files['settings.toml'])} has the settings.")
     return status
 
 
-def fail(text: str) -> NoReturn:
-    """Ends with a line."""
-    sys.exit(f"rendapil try: {text}")
-
-
-def main() -> int:
-    """Reads the words, and does it. The status."""
-    escape_output()
-    words = parsed()
+def try_or_list(words: argparse.Namespace) -> int:
+    """Tries a capture, or lists who speaks with whom. The status."""
     if not has("scapy"):
-        fail("this needs scapy: apt-get install python3-scapy")
+        raise Fault("this needs scapy: apt-get install python3-scapy")
     from scapy.error import Scapy_Exception
 
     try:
         with readable_twice(words.capture) as capture:
             if words.left:
-                status = try_it(words, capture)
-            else:
-                tell_pairs(capture, words.capture)
-                status = 0
-        sys.stdout.flush()
-        return status
-    except (Fault, ValueError) as error:
-        fail(shown(str(error)))
+                return try_it(words, capture)
+            tell_pairs(capture, words.capture)
+            return 0
     except (Scapy_Exception, EOFError) as error:
-        fail(f"{shown(words.capture)} is no capture that can be read: {shown(str(error))}")
-    except OSError as error:
-        fail(f"{shown(str(error.filename or words.capture))}: {error.strerror or shown(str(error))}")
-    except KeyboardInterrupt:
-        sys.exit(130)
-    except Exception as error:  # noqa: BLE001: no traceback has what stands in a capture
-        fail(unforeseen(error))
+        raise Fault(f"{shown(words.capture)} is no capture that can be read: {error}") from None
+
+
+def main() -> int:
+    """Reads the words, and does it. The status."""
+    words = parsed()
+    return ended("try", lambda: try_or_list(words), file=words.capture)
 
 
 if __name__ == "__main__":

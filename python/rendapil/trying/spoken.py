@@ -6,6 +6,7 @@ from collections.abc import Iterator
 from ipaddress import IPv4Address
 
 from rendapil.bindings import signed
+from rendapil.streams import messages_in, whole_of_parts
 
 SIX = rb"(\d{1,3}),(\d{1,3}),(\d{1,3}),(\d{1,3}),(\d{1,3}),(\d{1,3})(?!\d)"
 
@@ -16,14 +17,18 @@ def line_of_gateway(line: bytes, is_server: bool, own: int, alias: int) -> bytes
     if len(line) > 512 or not line.endswith(b"\n"):
         return line
     if is_server and line[:4] == b"227 ":
-        found = next((one for one in re.finditer(rb"(?<!\d)" + SIX, line) if one.start() >= 4 and all(int(part) < 256 for part in one.groups())), None)
+        found = next(
+            (one for one in re.finditer(rb"(?<!\d)" + SIX, line) if one.start() >= 4 and all(int(part) < 256 for part in one.groups())), None
+        )
         place = (found.start(1), found.end(4)) if found else None
     elif not is_server and line[:5].upper() == b"PORT ":
         found = re.match(rb".{5} *" + SIX, line, re.DOTALL)
         place = (found.start(1), found.end(4)) if found and all(int(part) < 256 for part in found.groups()) else None
     elif not is_server and line[:5].upper() == b"EPRT ":
         found = re.match(rb".{5} *([!-~])1\1(\d{1,3})\.(\d{1,3})\.(\d{1,3})\.(\d{1,3})\1\d{1,5}\1", line, re.DOTALL)
-        place, dot = (found.start(2), found.end(5)) if found and not found[1].isdigit() and all(int(part) < 256 for part in found.groups()[1:5]) else None, b"."
+        place, dot = (found.start(2), found.end(5)) if found and not found[1].isdigit() and all(
+            int(part) < 256 for part in found.groups()[1:5]
+        ) else None, b"."
     if not place or bytes(map(int, line[place[0] : place[1]].split(dot))) != own.to_bytes(4):
         return line
     return line[: place[0]] + str(IPv4Address(alias)).encode().replace(b".", dot) + line[place[1] :]
@@ -49,11 +54,7 @@ class Spoken:
 
     def _whole(self) -> bytes:
         """All that it says, up to the first gap."""
-        whole = bytearray()
-        for place, payload in sorted(self._parts):
-            if place <= len(whole) < place + len(payload):
-                whole += payload[len(whole) - place :]
-        return bytes(whole)
+        return whole_of_parts(sorted(self._parts))
 
     def find(self, is_ftp: bool, is_server: bool, own: int, alias: int) -> int:
         """Finds what the gateway moves, by what its host is called in the other realm, and says how many lines of FTP it changes."""
@@ -65,11 +66,7 @@ class Spoken:
 
     def messages(self) -> Iterator[bytes]:
         """The messages of DNS, each with the two bytes of its length. The last one may be cut."""
-        whole, at = self._whole(), 0
-        while at + 2 <= len(whole):
-            end = at + 2 + int.from_bytes(whole[at : at + 2])
-            yield whole[at:end]
-            at = end
+        return messages_in(self._whole())
 
     def find_messages(self) -> None:
         """Finds the messages of DNS, of which the receiver gets nothing before they are whole. The gateway may spell one longer or shorter: that

@@ -10,9 +10,12 @@ from contextlib import suppress
 from dataclasses import dataclass, field
 from ipaddress import IPv4Address, IPv4Network, collapse_addresses
 
-from rendapil.any_capture import Record, datagram_in
-from rendapil.bindings import DNS_PORT, FTP_PORT, SIDES, SYN, TCP, UDP, Binding, Bindings, named_in
-from rendapil.packet import Packet, is_host
+from rendapil.any_capture import Record, whole_of
+from rendapil.bindings import CHANGED, DNS_PORT, FTP_PORT, SIDES, SYN, TCP, UDP, Binding, Bindings, named_in
+from rendapil.files import RAW_IP, bare_head, record_head
+from rendapil.packet import ICMP, Packet, is_host
+from rendapil.settings_text import pool_table, same_line, static_table
+from rendapil.streams import TRACKED
 from rendapil.trying.spoken import Spoken
 
 CANDIDATES = [
@@ -24,7 +27,6 @@ CANDIDATES = [
 HOSTS, SAID = 10_000, 1 << 26
 """The most hosts of a capture that are taken, so that the settings aren't too long, and the most bytes of its FTP and DNS that are followed."""
 
-TRACKED = (FTP_PORT, DNS_PORT)
 BOTH, NOBODY = 2, 3
 PORTS = struct.Struct(">HH")
 
@@ -40,26 +42,35 @@ class Host:
     ports: Counter[str] = field(default_factory=Counter)
 
 
-def whole_of(link: int, octets: bytes) -> tuple[bytes, int]:
-    """The datagram of a frame without what its link put behind it, and its length on the wire. A card that segments leaves the length 0."""
-    datagram = datagram_in(link, octets)
-    total = int.from_bytes(datagram[2:4])
-    if datagram and not total and datagram[9] == TCP and len(datagram) < 1 << 16:
-        total = len(datagram)
-        datagram = datagram[:2] + total.to_bytes(2) + datagram[4:]
-    return datagram[:total] if total >= 20 else datagram, max(total, 20)
+def block(text: str) -> IPv4Network:
+    """A block of addresses, by any address of it."""
+    return IPv4Network(text, strict=False)
+
+
+def fill(packet: Packet) -> bool:
+    """Fills up a datagram that the capture has cut with zeros, and computes its sums anew. Says whether the gateway can do without what was cut: it
+    reads no fragment's rest, no payload of FTP, DNS and SNMP, and of an ICMP error the head that it holds and eight octets."""
+    octets, head = packet.octets, packet.head
+    needed = {TCP: 20, UDP: 8, ICMP: 36 if packet.is_icmp_error else 8}.get(packet.protocol)
+    if needed is None or packet.is_fragment or packet.total < len(octets) or len(octets) < head + needed:
+        return False
+    if packet.protocol != ICMP and any((packet.protocol, packet.number(head + at)) in CHANGED for at in (0, 2)):
+        return False
+    octets.extend(bytes(packet.total - len(octets)))
+    packet.mend()
+    return True
 
 
 class TwoRealms:
     """The hosts of a capture as two realms: those in the blocks of `left`, and all others. With `pool` each pool has so many addresses, and only
     hosts that others contact first have a static."""
 
-    def __init__(self, left: Iterable[IPv4Network], same: Iterable[IPv4Network], is_mended: bool, pool: int = 0) -> None:
-        self.left, self.same, self.is_mended, self.pool = list(left), list(same), is_mended, pool
+    def __init__(self, left: Iterable[IPv4Network], same: Iterable[IPv4Network], is_mended: bool, pool: int = 0, is_filled: bool = True) -> None:
+        self.left, self.same, self.is_mended, self.pool, self.is_filled = list(left), list(same), is_mended, pool, is_filled
         self.hosts: dict[int, Host] = {}
         self.pools: list[tuple[int, int]] = []
         self.left_out: Counter[str] = Counter()
-        self.mended = self.lines = self.crossed = 0
+        self.mended = self.filled = self.lines = self.crossed = 0
         self._sides: dict[int, int] = {}
         self._spoken: dict[tuple[int, int, int, int], list[Spoken | None]] = {}
         self._said = 0
@@ -71,7 +82,13 @@ class TwoRealms:
         side = self._sides.get(address)
         if side is None:
             whole = IPv4Address(address)
-            side = NOBODY if not is_host(address) else BOTH if any(whole in block for block in self.same) else int(not any(whole in block for block in self.left))
+            side = (
+                NOBODY
+                if not is_host(address)
+                else BOTH
+                if any(whole in block for block in self.same)
+                else int(not any(whole in block for block in self.left))
+            )
             if len(self._sides) < 1 << 17:
                 self._sides[address] = side
         return side
@@ -126,7 +143,7 @@ class TwoRealms:
         port, far_port = PORTS.unpack_from(packet.octets, packet.head)
         if (host := self.hosts.get(packet.destination)) and far_port < port and len(host.ports) < 64:
             host.ports[f"{far_port}/{'tcp' if packet.protocol == TCP else 'udp'}"] += 1
-        if packet.protocol != TCP or not (port in TRACKED or far_port in TRACKED) or len(packet.octets) < packet.head + 20:
+        if packet.protocol != TCP or not (port in TRACKED or far_port in TRACKED) or min(len(packet.octets), packet.total) < packet.head + 20:
             return
         segment = packet.octets[packet.head : packet.total]
         sequence, offset, flags = packet.number(packet.head + 4, 4), segment[12] >> 4, segment[13]
@@ -150,12 +167,16 @@ class TwoRealms:
         for side in (0, 1):
             fixed = sum(host.side != side and (host.contacted_first or not self.pool) for host in self.hosts.values())
             if self.pool and fixed > self.pool:
-                raise ValueError(f"{fixed} hosts of the {SIDES[1 - side]} realm are contacted before they speak and need a static: --pool has to be {fixed} at least")
+                raise ValueError(
+                    f"{fixed} hosts of the {SIDES[1 - side]} realm are contacted before they speak and need a static: --pool has to be {fixed} at least"
+                )
             wanted = self.pool or 2 * fixed
             fits = (block for block in CANDIDATES if block.num_addresses - 2 >= wanted and not any(block.overlaps(one) for one in taken))
             block = next(fits, None)
             if block is None:
-                raise ValueError(f"no block is free for a pool of {max(1, wanted)} addresses: --left, --same or hosts of the capture lie in each of those that 'try' knows")
+                raise ValueError(
+                    f"no block is free for a pool of {max(1, wanted)} addresses: --left, --same or hosts of the capture lie in each of those that 'try' knows"
+                )
             self.pools.append((int(block[1]), int(block[self.pool or -2])))
             taken.append(block)
 
@@ -170,8 +191,14 @@ class TwoRealms:
                 wanted = first - 1 + address % 256
                 host.alias = wanted if wanted in free else next(one for one in least if one in free)
                 free.remove(host.alias)
-        realms = {side: {"pool_first": str(IPv4Address(first)), "pool_last": str(IPv4Address(last))} for side, (first, last) in zip(SIDES, self.pools)}
-        rows = [{"side": SIDES[one.side], "host": str(IPv4Address(address)), "alias": str(IPv4Address(one.alias))} for address, one in self.hosts.items() if one.alias]
+        realms = {
+            side: {"pool_first": str(IPv4Address(first)), "pool_last": str(IPv4Address(last))} for side, (first, last) in zip(SIDES, self.pools)
+        }
+        rows = [
+            {"side": SIDES[one.side], "host": str(IPv4Address(address)), "alias": str(IPv4Address(one.alias))}
+            for address, one in self.hosts.items()
+            if one.alias
+        ]
         same = [str(block) for block in self.same]
         self._table = Bindings({**realms, "static": rows, "same": same}, lambda one: self._bound.update({(one.side, one.host): one}))
 
@@ -197,11 +224,18 @@ class TwoRealms:
         for frame in frames:
             datagram, length = whole_of(frame.link, frame.octets)
             packet = Packet(datagram) if datagram else None
-            if not packet or self._stays(packet) or len(self.hosts) > HOSTS - 4 and not all(one in self.hosts or self.side_of(one) == BOTH for one in (packet.source, packet.destination)):
+            if (
+                not packet
+                or self._stays(packet)
+                or len(self.hosts) > HOSTS - 4
+                and not all(one in self.hosts or self.side_of(one) == BOTH for one in (packet.source, packet.destination))
+            ):
                 continue
             side = 1 - self.side_of(packet.destination) if self.side_of(packet.source) == BOTH else self.side_of(packet.source)
             latest, before = max(frame.moment, latest + (side < before)), side
-            if self.is_mended and packet.is_whole:
+            if self.is_filled and not packet.is_whole and fill(packet):
+                self.filled += 1
+            elif self.is_mended and packet.is_whole:
                 self.mended += packet.mend()
             source = self._alias(packet.source, latest, True)
             self._move(packet, latest)
@@ -211,7 +245,7 @@ class TwoRealms:
             packet.put(16, (self._alias(receiver, latest) or receiver).to_bytes(4))
             if self.pool and source:
                 self._follow(side, latest, packet, source, receiver)
-            yield side, Record(latest, 101, bytes(packet.octets), max(length, len(packet.octets)))
+            yield side, Record(latest, RAW_IP, bytes(packet.octets), max(length, len(packet.octets)))
 
     def _follow(self, side: int, moment: int, packet: Packet, source: int, receiver: int) -> None:
         """Tells the table what the gateway will make of a datagram. What a DNS message names gets the least free aliases, as in one that is cut."""
@@ -266,21 +300,24 @@ class TwoRealms:
 
     def settings(self) -> str:
         """The settings for such a gateway."""
-        which = "Only hosts that others contact first have a static" if self.pool else "Each host has a static, so that the captures fit. Only hosts that others contact first need one"
+        which = (
+            "Only hosts that others contact first have a static"
+            if self.pool
+            else "Each host has a static, so that the captures fit. Only hosts that others contact first need one"
+        )
         lines = ["# Written by rendapil try.", f"# {which}.", ""]
         if self.same:
-            lines += ["same = [" + ", ".join(f'"{block}"' for block in self.same) + "]", ""]
+            lines.append(same_line(self.same))
         lines += ['fragments = "join"', ""]
         for side, (first, last) in enumerate(self.pools):
-            lines += [f"# Hosts of the {SIDES[1 - side]} realm are known on the {SIDES[side]} by these addresses.", f"[{SIDES[side]}]"]
-            lines += [f'pool_first = "{IPv4Address(first)}"', f'pool_last = "{IPv4Address(last)}"', 'link = "raw"', ""]
+            lines += [f"# Hosts of the {SIDES[1 - side]} realm are known on the {SIDES[side]} by these addresses.", pool_table(side, first, last)]
         is_long = len(self.hosts) > 2000
         for address, host in sorted(self.hosts.items(), key=lambda pair: (not pair[1].contacted_first, pair[1].side, pair[0])):
             if host.alias:
                 served = ", ".join(name for name, _ in host.ports.most_common(3))
                 why = f"contacted first{', at ' + served if served else ''}" if host.contacted_first else "speaks first: could do without"
                 lines += [] if is_long else [f"# {why}; {host.frames} frames"]
-                lines += ["[[static]]", f'side = "{SIDES[host.side]}"', f'host = "{IPv4Address(address)}"', f'alias = "{IPv4Address(host.alias)}"', ""]
+                lines.append(static_table(host.side, address, host.alias))
         return "\n".join(lines)
 
 
@@ -290,9 +327,9 @@ def write_captures(paths: list[str], frames: Iterable[tuple[int, Record]]) -> li
     files = [open(path, "wb") for path in paths]
     try:
         for file in files:
-            file.write(struct.pack("<IHHiIII", 0xA1B23C4D, 2, 4, 0, 0, 262144, 101))
+            file.write(bare_head())
         for side, record in frames:
-            files[side].write(struct.pack("<IIII", *divmod(record.moment, 10**9), len(record.octets), record.length) + record.octets)
+            files[side].write(record_head(record.moment, len(record.octets), record.length) + record.octets)
             counts[side] += 1
     finally:
         for file in files:
