@@ -18,6 +18,8 @@ COMMANDS = (
     ("try", CASE[1]),
     ("try", CASE[1], "--left", "10.0.0.0/8"),
     ("plan", CASE[1], CASE[2]),
+    ("compare", CASE[0], *CASE[1:5]),
+    ("export", "nftables", CASE[0]),
 )
 
 

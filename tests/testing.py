@@ -26,7 +26,7 @@ right = { pool_first = "172.16.9.1", pool_last = "172.16.9.254", link = "raw" }
 """Settings without a fault."""
 
 sys.path[:0] = [f"{TOP}/python", f"{TOP}/examples/live", f"{TOP}/bench"]
-CHECK, EXPLAIN, TRY, PLAN = ((f"{TOP}/rendapil", command) for command in ("check", "explain", "try", "plan"))
+CHECK, EXPLAIN, TRY, PLAN, COMPARE, EXPORT = ((f"{TOP}/rendapil", command) for command in ("check", "explain", "try", "plan", "compare", "export"))
 
 
 def load(name: str) -> ModuleType:

@@ -34,6 +34,8 @@ HELP = f"""usage: rendapil [--quiet] COMMAND WORDS
                                                   who had which address, and why frames were refused
   try CAPTURE [--left BLOCK.. [OPTIONS]]          makes two realms of one ordinary capture, and shows what happens
   plan LEFT RIGHT [OPTIONS]                       two networks before a merger: what overlaps, which settings they need, and what will break
+  compare SETTINGS CAPTURE.. [OPTIONS]            says what a real device does otherwise, by its captures
+  export KIND SETTINGS [OPTIONS]                  writes the rules for a Linux gateway: nftables, iproute2
   test                                            tests the program and the tools
 {PROVES}  --version | --program                           which program this is; where it is
   COMMAND --help                                  more about a command
@@ -65,6 +67,8 @@ TOOLS = {
     "explain": "rendapil.explain.command",
     "try": "rendapil.trying.command",
     "plan": "rendapil.planning.command",
+    "compare": "rendapil.comparing.command",
+    "export": "rendapil.exporting.command",
 }
 """The commands that are tools of their own, and take any words, each with its module."""
 
