@@ -1,8 +1,8 @@
 # Completion of rendapil for bash.
 _rendapil() {
-    local cur prev words cword commands="run audit make check explain try plan compare export test"
-    [ ! -e "$(dirname "$(readlink -f "$(type -P "$1")")")/crates.txt" ] || commands+=" prove"
-    _init_completion || return
+    local words=("${COMP_WORDS[@]}") cword=$COMP_CWORD cur=${COMP_WORDS[COMP_CWORD]} prev=${COMP_WORDS[COMP_CWORD - 1]}
+    local commands="run audit make check explain try plan compare export test"
+    [ ! -e "$(dirname "$(readlink -f "$(type -P "$1")")")/crates.txt" ] || commands+=" build prove"
     if [ "$cword" -eq 1 ]; then
         mapfile -t COMPREPLY < <(compgen -W "$commands help --help --version --program --quiet" -- "$cur")
         return
@@ -17,12 +17,10 @@ _rendapil() {
     "run -"* | "audit -"* | "make -"*) mapfile -t COMPREPLY < <(compgen -W "--quiet --help -" -- "$cur") ;;
     "help "* | "--quiet "*) mapfile -t COMPREPLY < <(compgen -W "$commands" -- "$cur") ;;
     *)
-        case "$prev" in
-        --left | --right | --same | --pool) ;;
-        --keep) _filedir -d ;;
-        --out) [ "${words[1]}" = plan ] && _filedir || _filedir -d ;;
-        *) _filedir ;;
-        esac
+        case "${words[1]} $prev" in
+        *" --left" | *" --right" | *" --same" | *" --pool") compopt +o default ;;
+        *" --keep" | "try --out") compopt +o default && mapfile -t COMPREPLY < <(compgen -d -- "$cur") ;;
+        esac # else a file: `-o default`
         ;;
     esac
-} && complete -F _rendapil rendapil
+} && complete -o default -F _rendapil rendapil

@@ -15,13 +15,13 @@ from pathlib import Path
 from typing import IO, Any
 
 from rendapil import crates, program
-from rendapil.places import BUILT, CRATES, IS_CHECKOUT, MADE, PROGRAM, TOP
+from rendapil.places import BUILT, CRATES, INSTALLED, IS_CHECKOUT, MADE, PREBUILT, TOP
 from rendapil.sayings import CANNOT, Stop, hint, say
 
 TABLE = TOP / "tools/seconds.tsv"
-QUICK = TOP / "tools/quick"
+QUICK = TOP / "tools/quick.py"
 FAILED, OTHER_KIT = 1, 3
-"""What tools/quick ends with where the code doesn't compile, and where this kit has another form than it knows."""
+"""What tools/quick.py ends with where the code doesn't compile, and where this kit has another form than it knows."""
 
 
 def hindrance() -> str:
@@ -81,22 +81,22 @@ def about(seconds: float) -> str:
     return "less than a minute" if seconds < 45 else f"about {int(seconds + 30) // 60} min"
 
 
-def build_unproved() -> None:
+def build_unproved(is_anew: bool = False) -> None:
     """Builds the program and checks no proof. Where this kit can't do that, it proves."""
     with alone() as room:
         program.code_of.cache_clear()
-        if program.is_current():  # another one has built it
+        if program.is_built() and not is_anew:  # another one has built it
             return
         code, begun = program.code_of(TOP), time.monotonic()
         hint("the program is built from the code of this checkout, without checking its proofs. This takes a minute or two")
         with open(room / "log", "w+", encoding="utf-8", errors="replace") as log:
-            with group(QUICK, PROGRAM, stderr=log) as work:
+            with group(QUICK, BUILT, stderr=log) as work:
                 status = work.wait()
             log.seek(0)
             told = log.read()
         if status == 0:
-            MADE.write_text(program.text_of(PROGRAM, code), "utf-8")
-            hint(f"built in {time.monotonic() - begun:.0f} s; {program.proof()}")
+            MADE.write_text(program.text_of(BUILT, code), "utf-8")
+            hint(f"built in {time.monotonic() - begun:.0f} s; {program.proof(BUILT)}")
             hint(f"'rendapil prove' checks the proofs here, in {about(estimate(crates.needed(CRATES)))} or more")
             return
         if status == FAILED:
@@ -167,24 +167,38 @@ def build_proved() -> None:
             sys.stderr.writelines(log[-20:])
             raise Stop(CANNOT, "the program could not be proved; the last lines are above")
         built, same = room / "crates/gateway_program/out/gateway_program", ""
-        if program.entries_in(MADE).get("code") == code and PROGRAM.exists():
-            is_same = filecmp.cmp(built, PROGRAM, shallow=False)
+        before = BUILT if program.entries_in(MADE).get("code") == code and BUILT.exists() else PREBUILT if program.is_prebuilt() else None
+        if before:
+            is_same = filecmp.cmp(built, before, shallow=False)
             same = f". The program that was used till now {'is' if is_same else 'is not'} the proved one, byte for byte"
-        new = PROGRAM.with_name("gateway_program.new")
+        new = BUILT.with_name("gateway_program.new")
         shutil.copy(built, new)
         MADE.write_text(program.text_of(built, code, proofs=proofs), "utf-8")
-        new.replace(PROGRAM)
+        new.replace(BUILT)
         spent = time.monotonic() - begun
         say(f"proved in {spent // 60:.0f} min {spent % 60:.0f} s{same}")
 
 
-def have_program() -> None:
-    """Has the program there: that of this code, or the one that is there where none can be built."""
-    if program.is_current():
-        return
+def have_program() -> Path:
+    """The program, which is built where there is none of this code. Where none can be built it is the one that is there."""
+    if found := program.used():
+        return found
     if not IS_CHECKOUT:
-        raise Stop(CANNOT, f"there is no program {PROGRAM}: install the package anew")
-    if program.is_there() and (why := hindrance()):
+        raise Stop(CANNOT, f"there is no program {INSTALLED}: install the package anew")
+    fault = program.fault_of_prebuilt() if PREBUILT.exists() else ""
+    old = BUILT if program.is_there(BUILT) else PREBUILT if PREBUILT.exists() and not fault else None
+    if old and (why := hindrance()):
         say(f"the program that is there runs. It is of other code than this checkout's, and can't be built anew: {why}")
-        return
+        return old
+    if fault:
+        say(f"{fault}. So the program is built")
     build_unproved()
+    return BUILT
+
+
+def build() -> None:
+    """Builds the program of the code here, and says whether the one that comes with the checkout is the same."""
+    build_unproved(is_anew=True)
+    if PREBUILT.exists():
+        is_same = filecmp.cmp(BUILT, PREBUILT, shallow=False)
+        say(f"{PREBUILT.relative_to(TOP)} {'is' if is_same else 'is not'} the same file, byte for byte")

@@ -4,7 +4,7 @@ import signal
 import sys
 
 from rendapil import sayings
-from rendapil.places import IS_CHECKOUT, PROGRAM, TOP
+from rendapil.places import IS_CHECKOUT, TOP
 from rendapil.sayings import CANNOT, Stop, say, shown
 
 USAGE = 2
@@ -15,10 +15,16 @@ COUNTS = {"run": 6, "audit": 7, "make": 3}
 
 WORDS_OF_RUN = "SETTINGS LEFT_IN RIGHT_IN LEFT_OUT RIGHT_OUT REPORT"
 
-PROVES = "  prove                                           checks the proofs on this machine, and builds the program\n" if IS_CHECKOUT else ""
+BUILDS = (
+    """  build                                           builds the program from the code here
+  prove                                           checks the proofs on this machine, and builds the program
+"""
+    if IS_CHECKOUT
+    else ""
+)
 
 MORE = (
-    "README.md has an example. The first use builds the program, in a minute or two."
+    "README.md has an example."
     if IS_CHECKOUT
     else "See rendapil(1), and rendapil-settings(5) for the settings. /usr/share/doc/rendapil has an example."
 )
@@ -37,7 +43,7 @@ HELP = f"""usage: rendapil [--quiet] COMMAND WORDS
   compare SETTINGS CAPTURE.. [OPTIONS]            says what a real device does otherwise, by its captures
   export KIND SETTINGS [OPTIONS]                  writes the rules for a Linux gateway: nftables, iproute2
   test                                            tests the program and the tools
-{PROVES}  --version | --program                           which program this is; where it is
+{BUILDS}  --version | --program                           which program this is; where it is
   COMMAND --help                                  more about a command
 {MORE}"""
 
@@ -56,6 +62,9 @@ Runs the gateway over COUNT frames (1 to 100000) that it makes from NUMBER (0 to
 by which two builds can be compared.""",
     "test": """usage: rendapil test
 Runs the worked cases with the program, and the tests of the tools. Needs Python 3.11. The last line is 'N passed, M failed'.""",
+    "build": """usage: rendapil build
+Builds the program from the code of this checkout in a minute or two, without checking its proofs. Says whether it is the program that PROVED-PROGRAM
+names as proved, and the file under prebuilt/. Needs rt, the tool of Rattle.""",
     "prove": """usage: rendapil prove
 Checks every proof that the program rests on, with all processors, and tells how long that will still take. Then it builds the program anew, and
 says whether the one before was the same. Needs rt, the tool of Rattle.""",
@@ -82,6 +91,16 @@ def tool(name: str, words: list[str]) -> int:
     return status
 
 
+def build() -> int:
+    """Builds the program anew."""
+    if not IS_CHECKOUT:
+        raise Stop(CANNOT, "the installed command has no code: a checkout has")
+    from rendapil import build as building
+
+    building.build()
+    return 0
+
+
 def prove() -> int:
     """Checks all proofs, if they weren't checked of just these sources."""
     if not IS_CHECKOUT:
@@ -100,9 +119,9 @@ def test() -> int:
 
     from rendapil.build import have_program
 
-    have_program()
+    program = have_program()
     env = {name: value for name, value in os.environ.items() if name != "PYTHONSAFEPATH"}  # tests import each other by their folder
-    return subprocess.run([sys.executable, TOP / "tests/cases", PROGRAM], env=env, check=False).returncode
+    return subprocess.run([sys.executable, TOP / "tests/cases", program], env=env, check=False).returncode
 
 
 def refused(words: list[str]) -> int:
@@ -139,8 +158,7 @@ def tell_program() -> None:
     """Where the program is."""
     from rendapil.build import have_program
 
-    have_program()
-    print(PROGRAM)
+    print(have_program())
 
 
 def tell_version() -> None:
@@ -169,6 +187,8 @@ def done(words: list[str]) -> int:
             tell_version()
         case ["--program"]:
             tell_program()
+        case ["build"]:
+            return build()
         case ["prove"]:
             return prove()
         case ["test"]:

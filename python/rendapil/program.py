@@ -1,18 +1,24 @@
 """Which program this is: of which code, and what is known of its proofs.
 
-`python3 -m rendapil.program --write PROGRAM` writes the file PROVED-PROGRAM of a built program. `--check PROGRAM` ends with 1 where that file doesn't
-name PROGRAM, which this kit has just proved of the code here. Where another kit is named it only says so."""
+`python3 -m rendapil.program --write PROGRAM` writes the file PROVED-PROGRAM of a built program, and puts the program under prebuilt/. `--check PROGRAM`
+ends with 1 where that file doesn't name PROGRAM, which this kit has just proved of the code here, or where prebuilt/ doesn't have it. Where another kit
+is named it only says so, and looks whether prebuilt/ has the program that is named."""
+import contextlib
 import hashlib
 import os
+import shutil
 import subprocess
 import sys
 from functools import cache
 from pathlib import Path
 
 from rendapil import crates
-from rendapil.places import CRATES, IS_CHECKOUT, MADE, PROGRAM, RECORD, TOP
+from rendapil.places import BUILT, CRATES, INSTALLED, IS_CHECKOUT, MADE, PREBUILT, RECORD, TOP
 
-HEAD = "# The program that was proved, its code and the kit. tools/proved_program writes this file, and .ci/run checks it.\n"
+HEAD = "# The program that was proved, its code and the kit. tools/proved_program.py writes this file, and .ci/run checks it.\n"
+
+LEAST_GLIBC = (2, 34)
+"""The oldest C library that the prebuilt program runs with."""
 
 
 def files_of(top: Path, name: str, endings: tuple[str, ...]) -> list[str]:
@@ -72,27 +78,66 @@ def text_of(program: Path, code: str, **more: str) -> str:
     return "".join(f"{word} {rest}\n" for word, rest in found.items())
 
 
-def is_there() -> bool:
-    """Whether there is a program that runs."""
-    return os.access(PROGRAM, os.X_OK) and PROGRAM.is_file()
+def is_there(program: Path) -> bool:
+    """Whether there is such a program, and may be run."""
+    return os.access(program, os.X_OK) and program.is_file()
 
 
-def is_current() -> bool:
-    """Whether the program is of the code here. Where it is installed there is no code."""
-    if not is_there() or not IS_CHECKOUT:
-        return is_there()
-    mine = {"program": sum_of(PROGRAM), "code": code_of(TOP)}
+def is_built() -> bool:
+    """Whether the program of the code here was built here."""
+    if not IS_CHECKOUT or not is_there(BUILT):
+        return False
+    mine = {"program": sum_of(BUILT), "code": code_of(TOP)}
     return any(mine.items() <= entries_in(path).items() for path in (MADE, RECORD))
+
+
+def used() -> Path | None:
+    """The program that runs: the installed one, or of the code here the one that was built here or that comes with the checkout. None where there is
+    none."""
+    if not IS_CHECKOUT:
+        return INSTALLED if is_there(INSTALLED) else None
+    if is_built():
+        return BUILT
+    return PREBUILT if is_prebuilt() and not fault_of_prebuilt() else None
+
+
+def is_prebuilt() -> bool:
+    """Whether a program of the code here comes with the checkout."""
+    return PREBUILT.exists() and entries_in(RECORD).get("code") == code_of(TOP)
+
+
+def fault_of_prebuilt() -> str:
+    """Why the program that comes with the checkout can't run here, if it can't."""
+    name = PREBUILT.relative_to(TOP)
+    if not PREBUILT.is_file() or sum_of(PREBUILT) != entries_in(RECORD).get("program"):
+        return f"{name} isn't the program that PROVED-PROGRAM names"
+    if not os.access(PREBUILT, os.X_OK):
+        return f"{name} may not be run: chmod +x {name}"
+    return fault_of_system(name)
+
+
+def fault_of_system(name: Path) -> str:
+    """Why no such program runs on this system, if none does."""
+    machine = os.uname()
+    if (machine.sysname, machine.machine) != ("Linux", "x86_64"):
+        return f"{name} is for x86-64 Linux, and this is {machine.sysname} on {machine.machine}"
+    library = ""
+    with contextlib.suppress(OSError, ValueError):
+        library = os.confstr("CS_GNU_LIBC_VERSION") or ""
+    found = tuple(map(int, library.removeprefix("glibc ").split(".")[:2])) if library.startswith("glibc ") else ()
+    if found < LEAST_GLIBC:
+        return f"{name} needs glibc {'.'.join(map(str, LEAST_GLIBC))}, and this system has {library or 'another C library'}"
+    return ""
 
 
 def is_proved_here() -> bool:
     """Whether the proofs of just these sources were checked on this machine."""
-    return is_current() and entries_in(MADE).get("proofs") == proofs_of(TOP)
+    return is_built() and entries_in(MADE).get("proofs") == proofs_of(TOP)
 
 
-def proof() -> str:
-    """What is known of the proof of the program."""
-    made, record, own = entries_in(MADE), entries_in(RECORD), sum_of(PROGRAM)
+def proof(program: Path) -> str:
+    """What is known of the proof of a program."""
+    made, record, own = entries_in(MADE), entries_in(RECORD), sum_of(program)
     code = code_of(TOP) if IS_CHECKOUT else ""
     if made.get("program") == own and made.get("proofs"):
         later = "" if made["proofs"] == proofs_of(TOP) else ", before these sources were changed"
@@ -109,9 +154,9 @@ def proof() -> str:
 def tell_version() -> None:
     """Which program this is."""
     print(f"rendapil {(TOP / 'VERSION').read_text('ascii').strip()}")
-    if is_current():
-        print(f"program: SHA-256 {sum_of(PROGRAM)}\nproof: {proof()}")
-    elif is_there():
+    if program := used():
+        print(f"program: SHA-256 {sum_of(program)}\nproof: {proof(program)}")
+    elif is_there(BUILT):
         print("program: of other code than that of this checkout. The next use builds it anew")
     else:
         print("program: not built yet")
@@ -123,24 +168,38 @@ def check(program: Path) -> int:
     if "kit" not in record:
         print(f"{RECORD} names no program", file=sys.stderr)
         return 1
+    mend = f"'tools/proved_program.py --write {program}' does that"
+    if fault := fault_of_prebuilt():
+        print(f"{fault}: {mend}", file=sys.stderr)
+        return 1
     if record["kit"] != kit():
         print(f"PROVED-PROGRAM names a program of '{record['kit']}', and this is '{kit()}': they aren't compared")
         return 0
     if {"program": sum_of(program), "code": code_of(TOP)}.items() <= record.items():
-        print("PROVED-PROGRAM names the program, the code and the kit")
+        print("PROVED-PROGRAM names the program, the code and the kit, and prebuilt/ has the program")
         return 0
-    print(f"PROVED-PROGRAM doesn't name {program} and the code here: 'tools/proved_program --write {program}' does that", file=sys.stderr)
+    print(f"PROVED-PROGRAM doesn't name {program} and the code here: {mend}", file=sys.stderr)
     return 1
 
 
+def write(program: Path) -> None:
+    """Has PROVED-PROGRAM name a program, and puts it under prebuilt/. Who runs the old one goes on with it."""
+    RECORD.write_text(HEAD + text_of(program, code_of(TOP)), "utf-8")
+    PREBUILT.parent.mkdir(parents=True, exist_ok=True)
+    new = PREBUILT.with_name("gateway_program.new")
+    shutil.copyfile(program, new)
+    new.chmod(0o755)
+    new.replace(PREBUILT)
+
+
 def main(words: list[str]) -> int:
-    """Writes or checks PROVED-PROGRAM."""
+    """Writes or checks PROVED-PROGRAM and prebuilt/."""
     if len(words) != 2 or words[0] not in ("--write", "--check") or not os.path.isfile(words[1]) or not CRATES.exists():
         print(str(__doc__).partition("\n\n")[2], file=sys.stderr)
         return 2
     if words[0] == "--check":
         return check(Path(words[1]))
-    RECORD.write_text(HEAD + text_of(Path(words[1]), code_of(TOP)), "utf-8")
+    write(Path(words[1]))
     return 0
 
 

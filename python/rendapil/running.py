@@ -4,12 +4,12 @@ import shutil
 import signal
 import subprocess
 import sys
+from pathlib import Path
 from threading import Thread
 
 from rendapil import sayings
 from rendapil.build import have_program
 from rendapil.outputs import Words
-from rendapil.places import PROGRAM
 from rendapil.progress import wait_and_tell
 from rendapil.reasons import tell_by, tell_end, tell_more
 
@@ -42,22 +42,22 @@ def is_watched(words: Words) -> bool:
     return is_shown and words.command != "make" and os.path.isfile(words.words[2]) and os.path.isfile(words.words[3])
 
 
-def called(words: Words) -> tuple[int, str]:
+def called(program: Path, words: Words) -> tuple[int, str]:
     """The status of the program, and its line on standard error. It ends when this command does."""
     tie = ["setpriv", "--pdeathsig", "TERM"] if shutil.which("setpriv") else []
     # A limit on the size of a file, which Python ignores, is a failed write for the program, which tells it.
-    process = subprocess.Popen([*tie, PROGRAM, *words.words], stderr=subprocess.PIPE, restore_signals=False, pass_fds=words.inherited)
+    process = subprocess.Popen([*tie, program, *words.words], stderr=subprocess.PIPE, restore_signals=False, pass_fds=words.inherited)
     if is_watched(words):
         wait_and_tell(process, words.words[2], words.words[3])
     line = os.fsdecode(process.communicate()[1]).rstrip("\n")
     return process.returncode if process.returncode >= 0 else 128 - process.returncode, line
 
 
-def run_program(words: Words) -> int:
+def run_program(program: Path, words: Words) -> int:
     """Runs the program, and says what its line leaves open. Ends as it ended."""
     signal.signal(signal.SIGINT, lambda *_: None)  # the program ends, and then this command
     checked = None if words.command == "make" else warnings(words.words[1])
-    status, line = called(words)
+    status, line = called(program, words)
     if checked:
         checked.join()
     if status != 0:
@@ -82,10 +82,10 @@ def run(given: list[str]) -> int:
     """A run, an audit or a make of these words."""
     slots, outputs = SLOTS[given[0]]
     words = Words(given, (given[0], *slots), outputs)
-    have_program()
+    program = have_program()
     if words.command != "make":
         words.name_streams()
         words.name_by_number()
         words.refuse_one_file_twice()
     words.lock_outputs()
-    return run_program(words)
+    return run_program(program, words)

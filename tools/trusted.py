@@ -1,5 +1,5 @@
 #!/usr/bin/env python3
-"""tools/trusted >docs/TRUSTED.md: the definitions that the proved statements rest on, in reading order, with amounts, and what laws and worked cases
+"""tools/trusted.py >docs/TRUSTED.md: the definitions that the proved statements rest on, in reading order, with amounts, and what laws and worked cases
 say of them. A word is found where it is imported. A local name that is the same as an imported one counts as that, so the amounts are a little high."""
 import re
 import sys
@@ -12,6 +12,8 @@ from pathlib import Path
 
 TOP = Path(__file__).resolve().parent.parent
 CRATES = TOP / "crates"
+sys.path.insert(0, str(TOP / "python"))
+from rendapil.crates import lines_of  # noqa: E402
 
 Word = tuple[str, str]
 """A module and a name that it defines, or a name of the toolchain."""
@@ -102,7 +104,7 @@ def name_of(path: Path) -> str:
 
 
 MODULES = {name_of(path): read(path) for path in sorted(CRATES.glob("*/specs/**/*.antt"))}
-ORDER = re.findall(r"^(\w+):", (TOP / "crates.txt").read_text("utf-8"), re.M)
+ORDER = list(lines_of(TOP / "crates.txt"))
 ROWS = (CRATES / "model_cases/proofs/RowsLimits.antt").read_text("utf-8")
 IN_ROWS = {word for line in ROWS.splitlines() if not line.startswith(("use", "--")) for word in TOKEN.findall(line)}
 """The constants that stand in digits once more."""
@@ -213,7 +215,7 @@ class Page:
         self.needed = {name: rests_on({word} | BESIDE.get(name, set())) for name, word in STATEMENTS.items()}
         self.all = self.needed["Answers"]
         if astray := sorted(" ".join(word) for word in self.all if INSIDE in word[0]):
-            sys.exit(f"tools/trusted: a statement rests on what only proofs should need: {', '.join(astray)}")
+            sys.exit(f"tools/trusted.py: a statement rests on what only proofs should need: {', '.join(astray)}")
         self.cases = cases() & self.all
         self.laws: dict[tuple[str, str], set[Word]] = defaultdict(set)
         self.by_law: set[Word] = set()
@@ -245,7 +247,7 @@ class Page:
             path = f"Rattle.{crate}.specs.{module}"
             words = {word for word in self.all if word[0] == path}
             if not words:
-                sys.exit(f"tools/trusted: no statement rests on {crate} {module}")
+                sys.exit(f"tools/trusted.py: no statement rests on {crate} {module}")
             read |= words
             yield f"| {crate} | `{module}` | {lines_of(words)} | {what} |"
         yield f"\nThese are {lines_of(read)} lines: some {round(minutes_of(read))} minutes, at {MINUTE} characters a minute."
@@ -271,9 +273,9 @@ class Page:
             text = "\n".join(path.read_text("utf-8") for path in sorted((CRATES / crate / "src").glob("**/*.rt")))
             found = {constant: (value, comment) for comment, constant, value in CONSTANT.findall(text)}
             if missing := named[crate] - found.keys():
-                sys.exit(f"tools/trusted: {crate} has no public constant with a comment: {', '.join(sorted(missing))}")
+                sys.exit(f"tools/trusted.py: {crate} has no public constant with a comment: {', '.join(sorted(missing))}")
             if ORDER.index(crate) <= ORDER.index("gate_model") and (missing := named[crate] - IN_ROWS):
-                sys.exit(f"tools/trusted: no row of RowsLimits in model_cases has {', '.join(sorted(missing))}")
+                sys.exit(f"tools/trusted.py: no row of RowsLimits in model_cases has {', '.join(sorted(missing))}")
             for constant in sorted(named[crate]):
                 value, comment = found[constant]
                 said = " ".join(line.removeprefix("///").strip() for line in comment.splitlines())
@@ -331,7 +333,7 @@ def wrapped(line: str) -> str:
 FRAME = """# What you have to believe
 
 The prover shows that the code does what definitions say. Whether these say what a gateway has to do, no proof can tell: you read them. This page says
-what there is to read, and how much. `tools/trusted >docs/TRUSTED.md` writes it, and `tests/run` fails where it isn't current.
+what there is to read, and how much. `tools/trusted.py >docs/TRUSTED.md` writes it, and `tests/run` fails where it isn't current.
 [PROVED](PROVED.md) says what is proved in words, and what else is trusted.
 
 ## Read these first

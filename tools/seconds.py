@@ -1,8 +1,8 @@
 #!/usr/bin/env python3
-"""tools/seconds [COMMAND ..]: runs a command, `rt ci` if none is given, at the top of the repository, and writes the processor seconds of each crate to
+"""tools/seconds.py [COMMAND ..]: runs a command, `rt ci` if none is given, at the top of the repository, and writes the processor seconds of each crate to
 tools/seconds.tsv: its proof with what compiles and runs a program, its tests, and its edits. It reads /proc four times a second, so that what a process
-takes behind its last reading is missing. Run it with nothing beside it and nothing kept (`tools/seconds rt ci --anew`).
-tools/seconds --table: prints what was written as the table of docs/GATE.md."""
+takes behind its last reading is missing. Run it with nothing beside it and nothing kept (`tools/seconds.py rt ci --anew`).
+tools/seconds.py --table: prints what was written as the table of docs/GATE.md."""
 import os
 import re
 import subprocess
@@ -11,6 +11,9 @@ import time
 from pathlib import Path
 
 TOP = Path(__file__).resolve().parent.parent
+sys.path.insert(0, str(TOP / "python"))
+from rendapil.crates import lines_of  # noqa: E402
+
 WRITTEN = TOP / "tools" / "seconds.tsv"
 TICK = os.sysconf("SC_CLK_TCK")
 KINDS = ("proof", "tests", "edits")
@@ -48,11 +51,6 @@ def lines_of_code(crate: str) -> int:
     return sum(1 for text in texts for line in text.splitlines() if line.strip() and not line.strip().startswith("//"))
 
 
-def crates() -> list[str]:
-    """The crates of crates.txt in their order."""
-    return re.findall(r"^([a-z_0-9]+)(?= |:)", (TOP / "crates.txt").read_text(), re.M)
-
-
 def figures_of(crate: str, seconds: dict[tuple[str, str], float]) -> list[int]:
     """A crate's lines of code, the seconds of its proof and its tests, the number of its edits, and their seconds."""
     proof, tests, edits = (round(seconds.get((crate, kind), 0)) for kind in KINDS)
@@ -81,7 +79,7 @@ def main() -> int:
     seconds: dict[tuple[str, str], float] = {}
     for crate, kind, spent in last.values():
         seconds[crate, kind] = seconds.get((crate, kind), 0) + spent
-    rows = (f"{crate}\t" + "\t".join(map(str, figures_of(crate, seconds))) for crate in crates())
+    rows = (f"{crate}\t" + "\t".join(map(str, figures_of(crate, seconds))) for crate in lines_of(TOP / "crates.txt"))
     WRITTEN.write_text("\n".join(["crate\tlines of code\tproof\ttests\tedits\ttheir seconds", *rows]) + "\n")
     print(f"{sum(seconds.values()) / 60:.0f} processor minutes")
     return process.returncode

@@ -1,5 +1,5 @@
 #!/usr/bin/env python3
-"""tools/unreached: lemmas and definitions that nothing reaches, and entries of crates.txt that their crate never names. The status is 1 where there is one.
+"""tools/unreached.py: lemmas and definitions that nothing reaches, and entries of crates.txt that their crate never names. The status is 1 where there is one.
 
 A name is reached from the code, from the proof of a function or a type, from worked rows, which stand for themselves, and from what is reached. Names are compared as words, so one that stands in two modules counts as reached where either is."""
 import os
@@ -8,6 +8,10 @@ import sys
 from collections import defaultdict
 
 TOP = os.path.join(os.path.dirname(os.path.abspath(__file__)), "..")
+sys.path.insert(0, f"{TOP}/python")
+from rendapil.crates import lines_of, uses_of  # noqa: E402
+from rendapil.places import CRATES  # noqa: E402
+
 WORD = re.compile(r"[A-Za-z_][\w'-]*")
 KEYWORD = re.compile(r"(?:unfoldable |abbrev )?(?:pub )?(?:(?:record|data|abbrev|type|unfoldable) )?(?:pub )?([A-Za-z_][\w'-]*)")
 PASSED = re.compile(r"(?:pub )?(use|mod|syntax|infix\w*|module|unfolding)\b|[}\])|]")
@@ -71,9 +75,8 @@ def unnamed():
     said = defaultdict(str)
     for path, lines in sources():
         said[path.split("/")[1]] += "\n".join(lines)
-    with open(f"{TOP}/crates.txt", encoding="utf-8") as file:
-        entries = [line.partition(":") for line in file if re.match(r"\w", line)]
-    return [f"crates.txt: {name} never names {other}" for name, _, others in entries for other in others.split() if not re.search(rf"\b(?:Rattle\.)?{other}(?:\.|::|;)", said[name])]
+    uses = uses_of(lines_of(CRATES))
+    return [f"crates.txt: {name} never names {other}" for name, others in uses.items() for other in others if not re.search(rf"\b(?:Rattle\.)?{other}(?:\.|::|;)", said[name])]
 
 
 def main():
