@@ -1,4 +1,4 @@
-"""`python3 -m rendapil`: the command. What stands here is read by any Python 3, so that an old one is told."""
+"""The command, as `rendapil` starts it. What stands here is read by any Python 3, so that an old one is told."""
 import sys
 
 if sys.version_info < (3, 11):

@@ -4,6 +4,7 @@ import subprocess
 import sys
 from functools import lru_cache
 from importlib.util import find_spec
+from pathlib import Path
 
 DEBIAN = "/usr/bin/python3"
 
@@ -20,6 +21,7 @@ def has(package: str) -> bool:
     if find_spec(package):
         return True
     if "RENDAPIL_PYTHON" not in os.environ and debian_has(package):
-        os.environ["RENDAPIL_PYTHON"] = DEBIAN  # once is enough
-        os.execv(DEBIAN, [DEBIAN, "-m", "rendapil", *sys.argv[0].split()[1:], *sys.argv[1:]])
+        package_folder = Path(__file__).parent
+        os.environ |= {"PYTHONSAFEPATH": "1", "PYTHONPATH": str(package_folder.parent), "RENDAPIL_PYTHON": DEBIAN}  # once is enough
+        os.execv(DEBIAN, [DEBIAN, str(package_folder / "__main__.py"), *sys.argv[0].split()[1:], *sys.argv[1:]])
     return False
