@@ -26,7 +26,7 @@ from testing import CASE, CHECK, EXPLAIN, INPUTS, LIVE, MERGER, OUTPUTS, PROGRAM
 from rendapil import bindings, frames
 from rendapil.explain import command as explain, gathered as collected, story as stories
 
-HAS_JINJA = bool(find_spec("jinja2")) or said("/usr/bin/python3", "-c", "import jinja2, tomllib")[0] == 0
+HAS_JINJA = bool(find_spec("jinja2")) or said("/usr/bin/python3", "-I", "-c", "import jinja2, tomllib")[0] == 0
 WAYS = (("10.0.0.5 > 192.168.200.1", "172.16.9.1 > 10.0.0.53"), ("10.0.0.53 > 172.16.9.1", "192.168.200.1 > 10.0.0.5"))
 """The ways of datagrams as they come and as they are sent, from each side."""
 NAMES = ("settings.toml", "left.pcap", "right.pcap", "left-out.pcap", "right-out.pcap", "report.txt")

@@ -328,6 +328,23 @@ class Script(unittest.TestCase):
         ):
             self.assertEqual(self.told(*self.run_words(**changed), line=line, status=status), (status, f"{line}\nrendapil: {more}\n"))
 
+    @unittest.skipUnless(os.geteuid() == 0, "only root mounts an overlay")
+    def test_one_file_of_an_overlay(self) -> None:
+        """An input by the merged folder is an output by the lower or the upper one, under another device number: it stays as it is."""
+        lower, upper, work, merged = (os.path.join(self.room, name) for name in ("lower", "upper", "work", "merged"))
+        for name in (lower, upper, work, merged):
+            os.mkdir(name)
+        for layer in (lower, upper):
+            self.write(f"{layer}/{os.path.basename(layer)}.pcap", b"kept")
+        options = f"lowerdir={lower},upperdir={upper},workdir={work}"
+        subprocess.run(["mount", "-t", "overlay", "overlay", "-o", options, merged], check=True)
+        self.addCleanup(subprocess.run, ["umount", merged], check=True)
+        for layer in (lower, upper):
+            name = f"{os.path.basename(layer)}.pcap"
+            code, text = self.told(*self.run_words(left_in=f"{merged}/{name}", left_out=f"{layer}/{name}"))
+            self.assertEqual((code, text.splitlines()[0]), (7, "open failed: left_out"), text)
+            self.assertEqual(Path(f"{layer}/{name}").read_bytes(), b"kept")
+
     def test_one_file_for_two_words(self) -> None:
         """An output that another word names too is refused, and what is there stays."""
         kept = self.write(f"{self.room}/kept", b"kept")

@@ -18,7 +18,7 @@ from rendapil.any_capture import records
 from datagrams import fragments, icmp, tcp, udp  # testing says where it is
 from rendapil.explain.pcapng import block
 
-HAS_SCAPY = bool(find_spec("scapy")) or said("/usr/bin/python3", "-c", "import scapy, tomllib")[0] == 0
+HAS_SCAPY = bool(find_spec("scapy")) or said("/usr/bin/python3", "-I", "-c", "import scapy, tomllib")[0] == 0
 PYTHON = sys.executable if find_spec("scapy") else "/usr/bin/python3"
 REALMS = """
 import hashlib, sys

@@ -125,6 +125,15 @@ def is_one_file(output: str, other: str) -> bool:
     if not stat.S_ISREG(mine.st_mode):
         return False
     try:
-        return os.path.samestat(mine, os.stat(other))
+        return are_one_file(mine, os.stat(other))
     except (OSError, ValueError):
         return False
+
+
+def are_one_file(one: os.stat_result, other: os.stat_result) -> bool:
+    """Whether two names lead to one file. In a container a file of an overlay may have one device number by the merged folder, and another one by the
+    lower folder. Its number there (without the bits in front that name the layer), its size and its times are the same then."""
+    if os.path.samestat(one, other):
+        return True
+    known = [(file.st_ino & 0xFFFFFFFF, file.st_size, file.st_mtime_ns, file.st_ctime_ns) for file in (one, other)]
+    return one.st_dev != other.st_dev and known[0] == known[1]
