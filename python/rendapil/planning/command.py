@@ -1,21 +1,24 @@
 """Which addresses of two networks overlap, which settings a gateway between them needs, and which of their
-applications would break. Takes an ordinary capture of each network, from before there is a gateway. Writes the settings. It needs scapy (Debian:
-python3-scapy)."""
+applications would break. Takes ordinary captures of each network, from before there is a gateway, or lists of its hosts. Writes the settings."""
 import argparse
+import heapq
 import os
 import shlex
 import sys
 from collections.abc import Iterator
+from contextlib import suppress
 from ipaddress import IPv4Address, IPv4Network, collapse_addresses
 
-from rendapil.any_capture import records
+from rendapil.any_capture import Record
 from rendapil.bindings import SIDES
-from rendapil.ending import ended
-from rendapil.files import shown
+from rendapil.ending import ended, fail
+from rendapil.files import FORMS, shown
 from rendapil.frames import second_of
-from rendapil.other_python import has
+from rendapil.inputs import files_of
 from rendapil.payloads.scan import lines_of, plural, told_rows
-from rendapil.planning.firm import TABLES, Firm, Machine, services_of
+from rendapil.planning.firm import MOST_HOSTS, TABLES, Firm, Machine, services_of
+from rendapil.planning.inventories import inventory
+from rendapil.readers import PACKED, PCAPNG, Damaged, whole_records
 from rendapil.sayings import Fault
 from rendapil.settings_text import oid_table, pool_table, same_line, static_table
 from rendapil.trying.two_realms import CANDIDATES, block
@@ -72,7 +75,7 @@ class Plan:
     def wanted(self, side: int) -> int:
         """How many addresses the pool of a side should have: twice those that its hosts need at one time, and room for statics."""
         firm = self.firms[1 - side]
-        return min(MOST, max(2 * firm.level.most, len(firm.servers()) + firm.level.most, 30))
+        return min(MOST, max(2 * firm.most, len(firm.servers()) + firm.most, 30))
 
     def _choose(self, side: int, taken: set[IPv4Network]) -> None:
         """Chooses a pool in which neither firm has an address."""
@@ -110,12 +113,13 @@ class Plan:
         for side, (block, first, last) in enumerate(self.pools):
             firm = self.firms[1 - side]
             yield f"# Hosts of the {SIDES[1 - side]} realm are known on the {SIDES[side]} by these addresses: route {block} to the gateway there. {plural(len(firm.hosts), 'host')} spoke,"
-            yield f"# of which {firm.level.most:,} would have had an alias at one time, had all of them spoken over the gateway, and {len(firm.servers()):,} serve others."
+            yield f"# of which {firm.most:,} would have had an alias at one time, had all of them spoken over the gateway, and {len(firm.servers()):,} serve others."
             yield pool_table(side, first, last)
         for side, address, alias, host in self.statics:
             services = list(services_of(host))
             more = f", and {len(services) - SERVICES} more" if len(services) > SERVICES else ""
-            yield f"# serves {plural(host.clients, 'host')}: {', '.join(services[:SERVICES])}{more}"
+            called = f"{', '.join(self.firms[side].names[address])}: " if address in self.firms[side].names else ""
+            yield f"# {called}serves {plural(host.clients, 'host')}: {', '.join(services[:SERVICES])}{more}"
             yield static_table(side, address, alias)
         for side, firm in enumerate(self.firms):
             if others := firm.servers(False):
@@ -133,12 +137,22 @@ class Plan:
 def tell_firms(firms: list[Firm]) -> None:
     """What was seen of both."""
     for firm in firms:
-        span = f"{second_of(firm.first // 10**9).replace('T', ' ')} to {second_of(firm.last // 10**9).replace('T', ' ')} UTC"
+        for what in firm.damaged:
+            print(f"{SIDES[firm.side]}: {what}")
+        span = f", {second_of(firm.first // 10**9).replace('T', ' ')} to {second_of(firm.last // 10**9).replace('T', ' ')} UTC" if firm.first else ""
+        spoke = "spoke, or stand in a list" if any(host.is_listed for host in firm.hosts.values()) else "spoke"
         print(
-            f"{SIDES[firm.side]}: {plural(len(firm.hosts), 'host')} of its own spoke, {len(firm.servers()):,} of them serve others. {plural(firm.frames, 'frame')}, {span}"
+            f"{SIDES[firm.side]}: {plural(len(firm.hosts), 'host')} of its own {spoke}, {len(firm.servers()):,} of them serve others. {plural(firm.frames, 'frame')}{span}"
         )
         if not firm.hosts:
             print(f"  no address of this capture is private: say which are the firm's own by --{SIDES[firm.side]} BLOCK")
+        if len(firm.hosts) >= MOST_HOSTS:
+            print(f"  it has more hosts than a pool has addresses: only the first {MOST_HOSTS:,} are known")
+        if firm.two_cards:
+            print(
+                f"  two network cards sent from each of {len(firm.two_cards):,} addresses, such as {IPv4Address(min(firm.two_cards))}: on several links a router "
+                "does that. If these are captures of both networks, each such address counts as one host here and is two"
+            )
 
 
 def tell_overlap(firms: list[Firm]) -> None:
@@ -167,7 +181,7 @@ def tell_pools(plan: Plan) -> None:
         fixed = sum(one[0] == 1 - side for one in plan.statics)
         print(
             f"{SIDES[side]} pool: {IPv4Address(first)} to {IPv4Address(last)}, {last - first + 1:,} addresses for {plural(len(firm.hosts), 'host')} of the {SIDES[1 - side]} realm, {fixed} of them fixed. "
-            f"If all spoke over the gateway, at most {firm.level.most:,} would need one at one time{at}"
+            f"If all spoke over the gateway, at most {firm.most:,} would need one at one time{at}"
         )
 
 
@@ -209,17 +223,75 @@ def tell_risks(firms: list[Firm]) -> None:
 
 def parsed() -> argparse.Namespace:
     """The words of the command."""
-    end = "The status is 0, or 1 where a capture can't be read or no settings fit, or 2 where the words are wrong."
+    end = "The status is 0, or 1 where a file can't be read, no settings fit or the rehearsal has a refused frame, or 2 where the words are wrong."
     parser = argparse.ArgumentParser(prog="rendapil plan", description=__doc__, epilog=end)
+    what = "network: a capture, a folder of captures, or a list of hosts (nmap -oG, DHCP leases, CSV; flows as nfdump -o csv)"
     for side in SIDES:
-        parser.add_argument(f"{side}_capture", metavar=side.upper(), help=f"an ordinary capture of the {side} network, as pcap or pcapng")
+        parser.add_argument(f"{side}_file", metavar=side.upper(), nargs="?", help=f"the {side} {what}")
     for side in SIDES:
         parser.add_argument(
-            f"--{side}", metavar="BLOCK", nargs="+", type=block, default=[], help=f"the {side} firm's own addresses (all private ones)"
+            f"--{side}",
+            metavar="WORD",
+            nargs="+",
+            default=[],
+            help=f"blocks of the {side} firm's own addresses (all private ones), and more of its files",
         )
     parser.add_argument("--no-same", action="store_true", help="public addresses don't mean the same hosts in both realms: they get aliases")
-    parser.add_argument("--out", metavar="FILE", default="rendapil-plan.toml", help="where the settings go (rendapil-plan.toml)")
+    parser.add_argument(
+        "--write", "--out", metavar="SETTINGS", dest="out", default="rendapil-plan.toml", help="where the settings go (rendapil-plan.toml)"
+    )
+    parser.add_argument("--html", metavar="FILE", help="also write a page for both firms to FILE")
+    parser.add_argument("--rehearse", action="store_true", help="run the proved program over calls of all clients to the servers of the other firm")
     return parser.parse_args()
+
+
+def words_of(words: list[str], first: str | None) -> tuple[list[IPv4Network], list[str]]:
+    """The blocks and the files of a side. A word that is no block is a file."""
+    blocks: list[IPv4Network] = []
+    files = [first] if first else []
+    for word in words:
+        try:
+            blocks.append(block(word))
+        except (argparse.ArgumentTypeError, ValueError):
+            files.append(word)
+    return blocks, files
+
+
+def frames_of(path: str, firm: Firm) -> Iterator[Record]:
+    """The frames of a capture. What is wrong behind the last one is noted."""
+    number = 0
+    try:
+        for number, record in enumerate(whole_records(path), 1):
+            yield record
+    except Damaged as error:
+        firm.damaged.append(f"{shown(path)} is damaged behind frame {number}: {error}")
+
+
+def is_capture(path: str) -> bool:
+    """Whether a file is a capture by its first bytes, and no list."""
+    with open(path, "rb") as file:
+        front = file.read(4)
+    return front in FORMS or front == PCAPNG or front[:2] == PACKED
+
+
+def files_in(path: str) -> list[str]:
+    """The files that a word names: itself, or the captures of a folder."""
+    try:
+        return files_of(path)
+    except Fault as error:
+        raise Fault(f"{shown(path)}: {error}") from None
+
+
+def look(firm: Firm, paths: list[str]) -> None:
+    """Looks at the captures and lists of a firm. Frames of several captures are taken in the order of their moments."""
+    files = [file for path in paths for file in files_in(path)]
+    captures = [file for file in files if is_capture(file)]
+    firm.look(heapq.merge(*(frames_of(file, firm) for file in captures), key=lambda record: record.moment))
+    for file in files:
+        if file not in captures:
+            firm.read(inventory(file))
+    if not firm.hosts and not firm.outside:
+        raise Fault(f"the {SIDES[firm.side]} side has no host with an IPv4 address: {', '.join(map(shown, paths))}")
 
 
 def refuse_overwriting(path: str) -> None:
@@ -230,24 +302,72 @@ def refuse_overwriting(path: str) -> None:
                 raise Fault(f"{shown(path)} is there and wasn't written by plan: give another name by --out")
 
 
-def plan_it(words: argparse.Namespace) -> None:
-    """Looks at both captures, writes the settings, and tells."""
+def refuse_one_side_twice(left: list[str], right: list[str]) -> None:
+    """Ends where a side has no file, or both have the same one."""
+    for side, paths in zip(SIDES, (left, right)):
+        if not paths:
+            fail("plan", f"the {side} side has no file: name a capture or a list of hosts of each network", 2)
+    for one in left:
+        for other in right:
+            with suppress(OSError):
+                if os.path.samefile(one, other):
+                    raise Fault(f"{shown(one)} is given for both sides: each network needs a capture of its own")
+
+
+def put_in_place(path: str, text: str) -> None:
+    """Writes a file whole, or not at all."""
+    if os.path.exists(path) and not os.path.isfile(path):  # a device or a pipe
+        with open(path, "w", encoding="utf-8") as file:
+            file.write(text)
+        return
+    new = f"{path}.new"
+    try:
+        with open(new, "w", encoding="utf-8") as file:
+            file.write(text)
+        os.replace(new, path)
+    except OSError:
+        with suppress(OSError):
+            os.remove(new)
+        raise
+
+
+def tell_zones(plan: Plan) -> None:
+    """Which names have to be looked up through the gateway."""
+    for side, address, alias, host in plan.statics:
+        if any(port == 53 for _, port in host.answered):
+            print(
+                f"{SIDES[1 - side].capitalize()} hosts that look up names of the {SIDES[side]} firm ask {IPv4Address(alias)} ({IPv4Address(address)} there)"
+            )
+    for side, firm in enumerate(plan.firms):
+        if zones := sorted({name.partition(".")[2] for names in firm.names.values() for name in names if "." in name}):
+            print(
+                f"Names of the {SIDES[side]} firm that DNS answers of its own gave: in {', '.join(zones[:SHOWN])}{' and more' if len(zones) > SHOWN else ''}"
+            )
+
+
+def plan_it(words: argparse.Namespace) -> int:
+    """Looks at both networks, writes the settings, and tells. The status."""
+    if words.html:
+        from rendapil.planning.page import refuse_without_jinja
+
+        refuse_without_jinja()
     refuse_overwriting(words.out)
-    paths = [words.left_capture, words.right_capture]
-    firms = [Firm(side, blocks) for side, blocks in enumerate((words.left, words.right))]
-    for firm, path in zip(firms, paths):
-        firm.look(records(path))
+    sides = [words_of(more, first) for more, first in ((words.left, words.left_file), (words.right, words.right_file))]
+    (_, left), (_, right) = sides
+    refuse_one_side_twice(left, right)
+    firms = [Firm(side, blocks) for side, (blocks, _) in enumerate(sides)]
+    for firm, (_, paths) in zip(firms, sides):
+        look(firm, paths)
     plan: Plan | None = None
     why: Fault | None = None
     try:
         plan = Plan(firms, not words.no_same)
     except Fault as error:
         why = error
+    names = [shown(os.path.basename(path.rstrip("/"))) for path in left + right]
     if plan:
-        with open(words.out, "w", encoding="ascii") as file:
-            file.writelines(
-                f"{line}\n" for line in plan.settings([shown(os.path.basename(path)).encode("ascii", "backslashreplace").decode() for path in paths])
-            )
+        text = "".join(f"{line}\n" for line in plan.settings([name.encode("ascii", "backslashreplace").decode() for name in names]))
+        put_in_place(words.out, text)
     tell_firms(firms)
     tell_overlap(firms)
     if plan:
@@ -256,26 +376,34 @@ def plan_it(words: argparse.Namespace) -> None:
     tell_risks(firms)
     if why or not plan:
         raise why or Fault("no settings fit")
-    print(f"\n{shown(words.out)} has the settings, with {plural(len(plan.statics), 'static')}. Next: rendapil check {shlex.quote(shown(words.out))}")
+    return finish(words, plan, names)
 
 
-def plan_if_read(words: argparse.Namespace) -> int:
-    """Plans. The status."""
-    if not has("scapy"):
-        raise Fault("this needs scapy: apt-get install python3-scapy")
-    from scapy.error import Scapy_Exception
+def finish(words: argparse.Namespace, plan: Plan, names: list[str]) -> int:
+    """Tells which names need the gateway, rehearses, and writes the page, where these are asked for. The status."""
+    print()
+    tell_zones(plan)
+    rehearsal: list[str] = []
+    status = 0
+    if words.rehearse:
+        from rendapil.planning.rehearsal import rehearse
 
-    try:
-        plan_it(words)
-    except (Scapy_Exception, EOFError) as error:
-        raise Fault(f"a capture can't be read: {error}") from None
-    return 0
+        done = rehearse(plan.firms, [one[:3] for one in plan.statics], [(first, last) for _, first, last in plan.pools], words.out)
+        rehearsal, status = list(done.told()), int(bool(done.refused))
+        print("Rehearsal: " + "\n".join(rehearsal))
+    if words.html:
+        from rendapil.planning.page import page_of
+
+        put_in_place(words.html, page_of(plan, names, rehearsal))
+        print(f"{shown(words.html)} is a page for both firms")
+    print(f"{shown(words.out)} has the settings, with {plural(len(plan.statics), 'static')}. Next: rendapil check {shlex.quote(shown(words.out))}")
+    return status
 
 
 def main() -> int:
     """Reads the words, and does it. The status."""
     words = parsed()
-    return ended("plan", lambda: plan_if_read(words))
+    return ended("plan", lambda: plan_it(words))
 
 
 if __name__ == "__main__":

@@ -1,4 +1,5 @@
-"""What an ordinary capture of one firm's network shows of it: its hosts, who of them serves whom, and what a gateway to another network has to know."""
+"""What ordinary captures of one firm's network, or lists of its hosts, show of it: its hosts, who of them serves whom, and what a gateway to another
+network has to know."""
 import heapq
 import struct
 from collections import Counter
@@ -9,9 +10,12 @@ from ipaddress import IPv4Network
 
 from rendapil.any_capture import Record, whole_of
 from rendapil.bindings import ACK, CHANGED, DNS_PORT, FIN, LONG_TIMEOUT, NAME_HOLD, PING_HOLD, RST, SYN, TCP, TCP_HOLD, UDP, UDP_TIMEOUT, named_in
+from rendapil.files import ETHERNET
 from rendapil.packet import ICMP, Packet, is_host, is_private
 from rendapil.payloads.applications import by_port
 from rendapil.payloads.scan import HOST, PRIVATE, Meant, Scan
+from rendapil.planning.inventories import Flow, Listed
+from rendapil.planning.names import named_hosts
 
 MOST_HOSTS, MOST_CLIENTS, MOST_FLOWS = 65_536, 256, 200_000
 """The most hosts of a firm that are known, clients of a service that are counted, and flows of which it is known who began."""
@@ -47,6 +51,8 @@ PROTOCOLS = {
     132: "SCTP",
 }
 PORTS = struct.Struct(">HH")
+HOLDS = {UDP: UDP_TIMEOUT, ICMP: PING_HOLD}
+"""How long an alias lasts behind a frame. Of TCP it depends on its flags."""
 
 
 def arcs_of(prefix: str) -> bytes:
@@ -57,9 +63,12 @@ def arcs_of(prefix: str) -> bytes:
 
 @dataclass
 class Machine:
-    """A host of the firm that speaks: its frames, the clients of each service, which of these it answers, and when its alias would end."""
+    """A host of the firm: its frames, the clients of each service, which of these it answers, and when its alias would end. `card` is the MAC address
+    that its first frame came from, and `is_listed` says that a list of hosts names it."""
 
     frames: int = 0
+    card: bytes = b""
+    is_listed: bool = False
     services: dict[tuple[int, int], set[int]] = field(default_factory=dict)
     answered: set[tuple[int, int]] = field(default_factory=set)
     end: int = 0
@@ -101,7 +110,8 @@ class Level:
 
 
 class Firm:
-    """What is seen of a firm. Its own hosts are those in `blocks`, or those with private addresses."""
+    """What is seen of a firm. Its own hosts are those in `blocks`, or those with private addresses. `damaged` names the files that end within a frame, each
+    with what is wrong, and `two_cards` are own addresses that two network cards sent from."""
 
     def __init__(self, side: int, blocks: Iterable[IPv4Network]) -> None:
         self.side, self.blocks = side, list(blocks)
@@ -114,6 +124,9 @@ class Firm:
         self.level = Level()
         self.scans = Scan(self._meaning, True), Scan(self._meaning, True)
         self.changed: Counter[str] = Counter()
+        self.names: dict[int, list[str]] = {}
+        self.damaged: list[str] = []
+        self.two_cards: set[int] = set()
         self._begun: dict[tuple[int, int, int, int, int], bool] = {}
 
     def is_own(self, address: int) -> bool:
@@ -126,16 +139,64 @@ class Firm:
             return None
         return Meant(HOST if address in self.hosts else PRIVATE, 0)
 
+    @property
+    def most(self) -> int:
+        """How many of its hosts may need an alias at one time. Of those of a list nobody knows when they speak."""
+        return max(self.level.most, sum(host.is_listed for host in self.hosts.values()))
+
     def look(self, records: Iterable[Record]) -> None:
         """Looks at a capture."""
         for number, record in enumerate(records, 1):
             datagram, _ = whole_of(record.link, record.octets)
             self.frames += 1
             if not datagram:
-                self.not_carried["no IPv4 (ARP, IPv6)"] += 1
+                self.not_carried[no_ipv4(record)] += 1
                 continue
             self.first, self.last = self.first or record.moment, max(self.last, record.moment)
-            self._take(number, record.moment, Packet(datagram))
+            packet = Packet(datagram)
+            self._take(number, record.moment, packet)
+            if record.link == ETHERNET and (host := self.hosts.get(packet.source)):
+                card = record.octets[6:12]
+                host.card = host.card or card
+                if host.card != card and len(self.two_cards) < MOST_HOSTS:
+                    self.two_cards.add(packet.source)
+
+    def read(self, rows: Iterable[Listed | Flow]) -> None:
+        """Takes a list of hosts or of flows."""
+        for row in rows:
+            if isinstance(row, Flow):
+                self._take_flow(row)
+            elif is_host(row.address) and self.is_own(row.address) and (row.address in self.hosts or len(self.hosts) < MOST_HOSTS):
+                self.seen.add(row.address)
+                host = self.hosts.setdefault(row.address, Machine())
+                host.is_listed = True
+                for service in row.services[:1024]:
+                    host.answered.add(service)
+                    host.services.setdefault(service, set())
+                self._name(row.address, row.name)
+
+    def _take_flow(self, flow: Flow) -> None:
+        """Takes the record of a flow, as if it were a frame of it."""
+        self.frames += 1
+        self.first, self.last = self.first or flow.moment, max(self.last, flow.moment)
+        if not is_host(flow.source) or not is_host(flow.destination):
+            self.not_carried["broadcast and multicast"] += 1
+            return
+        self._note(flow.source, True)
+        self._note(flow.destination, False)
+        for address in (flow.source, flow.destination):
+            if host := self.hosts.get(address):
+                self.level.use(address, host, flow.moment, HOLDS.get(flow.protocol, TCP_HOLD))
+        if flow.protocol in (TCP, UDP):
+            self._note_flow(flow.protocol, (flow.source, flow.port), (flow.destination, flow.far_port), 0)
+        self.level.drop(flow.moment, self.hosts)
+
+    def _name(self, address: int, name: str) -> None:
+        """Notes what a host is called."""
+        if name and (address in self.names or len(self.names) < MOST_HOSTS):
+            known = self.names.setdefault(address, [])
+            if name not in known and len(known) < 3:
+                known.append(name)
 
     def _take(self, number: int, moment: int, packet: Packet) -> None:
         """Takes a datagram."""
@@ -172,7 +233,7 @@ class Firm:
 
     def _note_use(self, packet: Packet, moment: int) -> None:
         """Notes for how long the host that sends would keep its alias."""
-        hold = {UDP: UDP_TIMEOUT, ICMP: PING_HOLD}.get(packet.protocol, TCP_HOLD)
+        hold = HOLDS.get(packet.protocol, TCP_HOLD)
         if packet.protocol == TCP and len(packet.octets) >= packet.head + 14 and packet.octets[packet.head + 13] & (SYN | ACK | FIN | RST) == ACK:
             hold = LONG_TIMEOUT
         for address in (packet.source, packet.destination):
@@ -182,29 +243,30 @@ class Firm:
     def _note_service(self, packet: Packet) -> None:
         """Notes who serves whom: by the SYN of a connection, or by who spoke first."""
         port, far_port = PORTS.unpack_from(packet.octets, packet.head)
+        has_flags = packet.protocol == TCP and len(packet.octets) >= packet.head + 14
+        flags = packet.octets[packet.head + 13] & (SYN | ACK) if has_flags else 0
+        self._note_flow(packet.protocol, (packet.source, port), (packet.destination, far_port), flags)
+
+    def _note_flow(self, protocol: int, sender: tuple[int, int], receiver: tuple[int, int], flags: int) -> None:
+        """The same by the ends of a datagram, each with its port, and by SYN and ACK."""
+        (source, port), (destination, far_port) = sender, receiver
         for one in (port, far_port):
-            if (packet.protocol, one) in CHANGED and (of := by_port(packet.protocol, one, 65_535)[0]):
+            if (protocol, one) in CHANGED and (of := by_port(protocol, one, 65_535)[0]):
                 self.changed[of.name] += 1
-        key = (packet.protocol, packet.source, port, packet.destination, far_port)
-        back = (packet.protocol, packet.destination, far_port, packet.source, port)
-        if packet.protocol == TCP and len(packet.octets) >= packet.head + 14:
-            flags = packet.octets[packet.head + 13] & (SYN | ACK)
-            if flags == SYN:
-                self._begun[key] = True
-            elif flags == SYN | ACK:
-                self._begun[back] = True
+        key = (protocol, source, port, destination, far_port)
+        back = (protocol, destination, far_port, source, port)
+        if flags == SYN:
+            self._begun[key] = True
+        elif flags == SYN | ACK:
+            self._begun[back] = True
         if key not in self._begun and back not in self._begun:
-            known, server_port = by_port(packet.protocol, port, far_port)
+            known, server_port = by_port(protocol, port, far_port)
             self._begun[back if known and server_port == port != far_port else key] = True
         if len(self._begun) > MOST_FLOWS:
             self._begun.clear()
             return
         is_client = key in self._begun
-        server, service, client = (
-            (packet.destination, (packet.protocol, far_port), packet.source)
-            if is_client
-            else (packet.source, (packet.protocol, port), packet.destination)
-        )
+        server, service, client = (destination, (protocol, far_port), source) if is_client else (source, (protocol, port), destination)
         if host := self.hosts.get(server):
             clients = host.services.get(service)
             if clients is None and len(host.services) < 1024:
@@ -219,6 +281,9 @@ class Firm:
         ports = PORTS.unpack_from(packet.octets, packet.head)
         payload = bytes(packet.octets[packet.head + 8 : packet.total])
         if packet.protocol == UDP and DNS_PORT in ports:
+            for address, name in named_hosts(payload):
+                if self.is_own(address):
+                    self._name(address, name)
             with suppress(ValueError, LookupError, struct.error):
                 for octets in named_in(payload):
                     if host := self.hosts.get(address := int.from_bytes(octets)):
@@ -231,7 +296,8 @@ class Firm:
 
     def servers(self, is_sure: bool = True) -> list[tuple[int, Machine]]:
         """The hosts that serve others, those with the most clients first; or those that only look as if they did."""
-        found = [(address, host) for address, host in self.hosts.items() if host.clients and host.is_server == is_sure]
+        found = [(address, host) for address, host in self.hosts.items() if (host.clients or host.is_listed) and host.is_server == is_sure]
+        found = [one for one in found if one[1].answered]
         return sorted(found, key=lambda one: (-one[1].clients, one[0]))
 
     def compare(self, other: "Firm") -> None:
@@ -242,6 +308,13 @@ class Firm:
     def blocks_in_use(self) -> Counter[IPv4Network]:
         """How many hosts speak in each block of 256 addresses."""
         return Counter(IPv4Network((address & ~255, 24)) for address in self.hosts)
+
+
+def no_ipv4(record: Record) -> str:
+    """What a frame without a datagram of IPv4 is."""
+    kinds = {b"\x08\x06": "ARP", b"\x86\xdd": "IPv6"}
+    found = kinds.get(record.octets[12:14], "") if record.link == ETHERNET else ""
+    return found or "neither IPv4 nor ARP nor IPv6, or cut within its header"
 
 
 def kind_of(packet: Packet) -> str:
