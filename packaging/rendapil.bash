@@ -11,7 +11,7 @@ _rendapil() {
     "explain -"*) mapfile -t COMPREPLY < <(compgen -W "--statics --json --events --settings --html --pcapng --payloads --help" -- "$cur") ;;
     "try -"*) mapfile -t COMPREPLY < <(compgen -W "--left --same --pool --keep-sums --keep-cut --out --help" -- "$cur") ;;
     "plan -"*) mapfile -t COMPREPLY < <(compgen -W "--left --right --no-same --write --out --html --rehearse --help" -- "$cur") ;;
-    "compare -"*) mapfile -t COMPREPLY < <(compgen -W "--left --right --left-mac --right-mac --clocks --window --any-ttl --any-port --lossy --keep --json --help" -- "$cur") ;;
+    "compare -"*) mapfile -t COMPREPLY < <(compgen -W "--left --right --left-mac --right-mac --clocks --window --any-ttl --any-port --lossy --keep --json --json-lines --html --help" -- "$cur") ;;
     "export -"*) mapfile -t COMPREPLY < <(compgen -W "--left --right --left-via --right-via --table --help" -- "$cur") ;;
     "check -"*) mapfile -t COMPREPLY < <(compgen -W "--brief --help" -- "$cur") ;;
     "run -"* | "audit -"* | "make -"*) mapfile -t COMPREPLY < <(compgen -W "--quiet --help -" -- "$cur") ;;
