@@ -161,7 +161,7 @@ class Learnt:
     chosen: dict[tuple[int, int], int] = field(default_factory=dict)
     fixed: set[tuple[int, int]] = field(default_factory=set)
     first: dict[tuple[int, int], int] = field(default_factory=dict)
-    spans: dict[tuple[int, int, int], tuple[int, int]] = field(default_factory=dict)
+    spans: dict[tuple[int, int, int], list[int]] = field(default_factory=dict)
     """When the first and the last frame were that had this alias."""
 
     def learn(self, links: Links, has_ports: bool) -> None:
@@ -210,15 +210,18 @@ class Learnt:
         host, alias, far_alias, far_host = (int.from_bytes(part) for part in (came[:4], went[:4], came[4:], went[4:]))
         for key in ((side, host, alias), (1 - side, far_host, far_alias)):
             self.votes[key] += 1
-            first, last = self.spans.get(key, (moment, moment))
-            self.spans[key] = min(first, moment), max(last, moment)
-        for one in ((side, host), (1 - side, far_host)):
-            self.first[one] = min(moment, self.first.get(one, moment))
+            span = self.spans.get(key)
+            if not span:
+                self.spans[key] = [moment, moment]
+            elif moment > span[1]:
+                span[1] = moment
+            elif moment < span[0]:
+                span[0] = moment
 
     def changes(self) -> list[tuple[int, int]]:
         """When aliases changed hands, or hosts their alias: each between the last frame with the old one and the first with the new one. Those that were in
         use side by side are contradictions, and aren't in it."""
-        holders: dict[tuple[str, int, int], list[tuple[int, int]]] = {}
+        holders: dict[tuple[str, int, int], list[list[int]]] = {}
         for (side, host, alias), span in self.spans.items():
             if self.votes[side, host, alias] >= FEW and host != alias:
                 holders.setdefault(("alias", side, alias), []).append(span)
@@ -231,6 +234,8 @@ class Learnt:
 
     def choose(self, settings: dict) -> None:
         """Chooses one alias for each host, that of the most frames, and tells where the device contradicts itself or the settings."""
+        for (side, host, _), (first_seen, _) in self.spans.items():
+            self.first[side, host] = min(first_seen, self.first.get((side, host), first_seen))
         same = Blocks(settings.get("same", []))
         pools = [pool_of(settings, side) for side in SIDES]
         fixed = {(SIDES.index(row["side"]), int(IPv4Address(row["host"]))): int(IPv4Address(row["alias"])) for row in settings.get("static", [])}

@@ -207,9 +207,8 @@ def folder(kept: str | None) -> Iterator[str]:
             yield room
 
 
-def compared(words: argparse.Namespace, settings: dict, links: Links, room: str) -> "Compared":
+def compared(words: argparse.Namespace, settings: dict, links: Links, learnt: Learnt, room: str) -> "Compared":
     """Compares the captures of a time in which no alias changes hands."""
-    learnt = learnt_from(links, words)
     learnt.choose(settings)
     moved = undo_ports(settings, links, learnt) if words.any_port else (0, 0)
     paths = os.path.join(room, "settings.toml"), os.path.join(room, "by-use.toml")
@@ -259,11 +258,9 @@ def compared_by_parts(words: argparse.Namespace, settings: dict, links: Links, r
         raise Fault("no frame that went out is one that came: are these the links of one device, at one time, and are left and right in their order?")
     changes = [] if words.any_port else learnt.changes()
     if not changes:
-        return compared(words, settings, links, room)
-    parts = links.parts(links.quiet_moments(changes)[:MOST_CUTS], room)
-    whole, *others = (
-        compared(words, settings, part, os.path.dirname(part.came[0].path)) for part in parts if any(file.numbers for file in part.came)
-    )
+        return compared(words, settings, links, learnt, room)
+    parts = [part for part in links.parts(links.quiet_moments(changes)[:MOST_CUTS], room) if any(file.numbers for file in part.came)]
+    whole, *others = (compared(words, settings, part, learnt_from(part, words), os.path.dirname(part.came[0].path)) for part in parts)
     for other in others:
         whole.merge(other)
     return whole
