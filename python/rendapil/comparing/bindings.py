@@ -105,7 +105,8 @@ def clocks_apart(links: Links) -> int:
 @dataclass
 class Learnt:
     """Who is called what by the device: by side and host, how many frames had which alias, and the other way round. `faults` are its bindings that
-    contradict each other or the settings, each as cause and example. `fixed` are the hosts that have a static, and `first` is when a host was seen first."""
+    contradict each other or the settings, each as cause and example. `fixed` are the hosts that have a static, and `first` is when a host was seen first.
+    """
 
     votes: Counter[tuple[int, int, int]] = field(default_factory=Counter)
     faults: list[tuple[str, str]] = field(default_factory=list)

@@ -195,7 +195,9 @@ def compare(words: argparse.Namespace) -> int:
         learnt = Learnt()
         learnt.learn(links, not words.any_port)
         if not learnt.votes and all(file.numbers for file in links.went):
-            raise Fault("no frame that went out is one that came: are these the links of one device, at one time, and are left and right in their order?")
+            raise Fault(
+                "no frame that went out is one that came: are these the links of one device, at one time, and are left and right in their order?"
+            )
         learnt.choose(settings)
         moved = undo_ports(settings, links, learnt) if words.any_port else (0, 0)
         path = os.path.join(room, "settings.toml")

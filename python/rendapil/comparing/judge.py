@@ -239,7 +239,14 @@ class Judge:
         left: list[Due] = []
         for due in match.due:
             if self.learnt.is_early(1 - due.came.side, int.from_bytes(due.datagram[16:20]), due.came.moment):
-                self.groups.add("frame to a host without a static that hadn't sent anything yet", BY_RIGHT, due.came.moment, self.came_at(due.came), "nothing", spoken(due.datagram))
+                self.groups.add(
+                    "frame to a host without a static that hadn't sent anything yet",
+                    BY_RIGHT,
+                    due.came.moment,
+                    self.came_at(due.came),
+                    "nothing",
+                    spoken(due.datagram),
+                )
             elif is_segment(due.datagram):
                 wanted.setdefault(self.connection(1 - due.came.side, OUT, due.datagram), [0, 0, 0, 0])[2 * due.came.side] += 1
                 left.append(due)

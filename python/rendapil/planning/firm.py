@@ -11,7 +11,8 @@ from rendapil.any_capture import Record, whole_of
 from rendapil.bindings import ACK, CHANGED, DNS_PORT, FIN, LONG_TIMEOUT, NAME_HOLD, PING_HOLD, RST, SYN, TCP, TCP_HOLD, UDP, UDP_TIMEOUT, named_in
 from rendapil.packet import ICMP, Packet, is_host, is_private
 from rendapil.payloads.applications import by_port
-from rendapil.payloads.scan import HOST, PRIVATE, Meant, Scan
+from rendapil.payloads.kept import HOST, PRIVATE, Meant
+from rendapil.payloads.scan import Scan
 
 MOST_HOSTS, MOST_CLIENTS, MOST_FLOWS = 65_536, 256, 200_000
 """The most hosts of a firm that are known, clients of a service that are counted, and flows of which it is known who began."""
