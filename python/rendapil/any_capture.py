@@ -153,6 +153,23 @@ def datagram_in(link: int, octets: bytes) -> bytes:
     return found if len(found) >= 20 and found[0] >> 4 == 4 and found[0] & 15 >= 5 else b""
 
 
+def why_none(frame: Record) -> str:
+    """Why a frame has no datagram: three reasons that a user wants apart, and others."""
+    octets, at = frame.octets, 12
+    if frame.link == 1:
+        while octets[at : at + 2] in TAGS:
+            at += 4
+        kind = octets[at : at + 2]
+    elif frame.link in (SLL, SLL2):
+        kind = octets[14:16] if frame.link == SLL else octets[:2]
+    else:
+        first = octets[:1] if frame.link in RAW else octets[4:5]
+        kind = IPV4 if first[:1] and first[0] >> 4 == 4 else b"\x86\xdd" if first[:1] and first[0] >> 4 == 6 else b""
+    if kind == IPV4:
+        return "IPv4 that is cut within its header, or damaged"
+    return {b"\x86\xdd": "IPv6", b"\x08\x06": "ARP"}.get(kind, "no IPv4")
+
+
 def with_length(datagram: bytes) -> bytes:
     """A datagram with its length: a card that segments leaves the length 0."""
     if datagram and datagram[2:4] == b"\0\0" and datagram[9] == TCP and len(datagram) < 1 << 16:

@@ -288,6 +288,7 @@ def parsed() -> argparse.Namespace:
     )
     parser.add_argument("--html", metavar="FILE", help="write a page with pictures of the run to FILE, and nothing to standard output")
     parser.add_argument("--pcapng", metavar="FILE", help="write all four captures to FILE as one, with comments, and nothing to standard output")
+    parser.add_argument("--of", metavar="NAME", default="", help="the name of the capture that the run was made of, for the title of the page")
     return parser.parse_args()
 
 

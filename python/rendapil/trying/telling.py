@@ -1,0 +1,149 @@
+"""What came of a try, in words."""
+from collections import Counter
+from ipaddress import IPv4Network
+
+from rendapil.bindings import SIDES
+from rendapil.files import Capture, lines, shown
+from rendapil.frames import second_of, verdicts_of
+from rendapil.sayings import quoted
+from rendapil.trying.needs import SECOND, Need
+from rendapil.trying.two_realms import TwoRealms
+
+FRAGMENTS = 100_000
+"""The most packets whose fragments are followed at once."""
+
+
+def counted(count: int, name: str) -> str:
+    """So many of something."""
+    return f"{count} {name}{'' if count == 1 else 's'}"
+
+
+def tell_realms(realms: TwoRealms, counts: list[int], folder: str) -> None:
+    """Which hosts and frames go to the gateway, what was mended, and what was left out."""
+    needy, hosts = sum(host.contacted_first for host in realms.hosts.values()), len(realms.hosts)
+    total = sum(counts)
+    print(
+        f"{counted(total, 'frame')} {'goes' if total == 1 else 'go'} to the gateway, {counts[0]} of the left realm and {counts[1]} of the right one."
+    )
+    print(
+        f"{needy} of {counted(hosts, 'host')} {'is' if needy == 1 else 'are'} contacted before they speak: these need a static. "
+        f"{shown(folder)}/settings.toml is a draft for your own settings."
+    )
+    if same := realms.public_seen():
+        mean = "public address means" if same == 1 else "public addresses mean"
+        print(f"{same} {mean} the same in both realms. --public gives them aliases too.")
+    print()
+    for what, count in sorted(realms.left_out.items()):
+        print(f"{count:8}  {'frame' if count == 1 else 'frames'} left out: {what}")
+    for count, what in (
+        (realms.filled, "that the capture has cut, and that were filled up with zeros: their payloads mean nothing"),
+        (realms.mended, "with a checksum that was mended: whoever captures his own frames sees them before his card fills it in"),
+    ):
+        if count:
+            print(f"{count:8}  {'frame' if count == 1 else 'frames'} {what}")
+    if realms.lines:
+        print(f"{realms.lines:8}  {'line' if realms.lines == 1 else 'lines'} of FTP that the gateway changes")
+    for line in realms.oddities.lines():
+        print(f"\n{line[0].upper()}{line[1:]}.")
+
+
+def verdicts_in(report: str) -> Counter[str]:
+    """How many frames had each verdict."""
+    with open(report, "rb") as file:
+        return Counter(line.verdict for line in lines(file, report) if not isinstance(line, str))
+
+
+def lost_fragments(left: str, right: str, report: str) -> int:
+    """How many frames were held for a packet that never went out."""
+    held: Counter[bytes] = Counter()
+    lost = 0
+    with Capture(left) as one, Capture(right) as other, open(report, "rb") as file:
+        frames = one.frames(), other.frames()
+        for line in lines(file, report):
+            if isinstance(line, str):
+                break
+            octets = next(frames[line.side]).octets
+            if len(octets) < 20 or not (octets[6] & 0x3F or octets[7]):
+                continue
+            key = bytes([line.side]) + octets[4:6] + octets[9:10] + octets[12:20]
+            if line.verdict == "held":
+                held[key] += 1
+                if len(held) > FRAGMENTS:
+                    lost += held.total()
+                    held.clear()
+            elif line.verdict == "pass":
+                held.pop(key, None)
+    return lost + held.total()
+
+
+def tell_verdicts(verdicts: Counter[str], lost: int) -> None:
+    """How many frames passed, and why the others didn't."""
+    means = verdicts_of()
+    total, passed, joined = verdicts.total(), verdicts["pass"], verdicts["held"] - lost
+    print(
+        f"\n{passed} of {counted(total, 'frame')} that {'goes' if total == 1 else 'go'} to the gateway pass{'es' if passed == 1 else ''}"
+        + (f", and {joined} went out as parts of these." if joined else ".")
+    )
+    for name, count in verdicts.most_common():
+        if name == "held":
+            if joined:
+                print(f"{joined:8}  held: fragments that waited for the others of their packet, which then passed")
+            if lost:
+                print(
+                    f"{lost:8}  lost: fragments that were held, whose packet never went out. What to do: capture all fragments, and see why some are missing or overlap"
+                )
+            continue
+        said = f"{means[name].means}. What to do: {means[name].todo}" if name in means else ""
+        print(f"{count:8}  {name}{': ' + said if said else ''}")
+
+
+def tell_limits(verdicts: Counter[str], realms: TwoRealms, again: list[str]) -> None:
+    """Where an open loop bites, and what helps."""
+    stuck = verdicts["Gap"] + verdicts["AckAhead"]
+    if 10 * stuck > verdicts.total():
+        print(
+            f"\n{counted(stuck, 'frame')} {'is' if stuck == 1 else 'are'} Gap or AckAhead. The hosts of a capture don't answer anew: where the gateway makes a message longer or shorter, or where the"
+        )
+        print("capture misses a frame, they go on as if nothing had happened. A live gateway doesn't meet this.", end=" ")
+        if names := realms.public_names():
+            print(
+                f"Public addresses mean the same hosts in both realms in most networks. So try:\n\n  {' '.join(again)} --same {' '.join(map(str, names))}"
+            )
+        elif verdicts["Snapped"]:
+            print("Here most follow frames that the capture has cut (Snapped): capture whole frames, by tcpdump -s 0.")
+        else:
+            print("Give addresses that mean the same hosts in both realms by --same.")
+    if 10 * verdicts["NoSession"] > verdicts.total():
+        why = (
+            "the capture has one direction of these connections alone. Capture where both directions pass"
+            if realms.oddities.is_one_way
+            else "the capture begins within these connections. Capture from before they begin"
+        )
+        print(f"\n{counted(verdicts['NoSession'], 'frame')} {'is' if verdicts['NoSession'] == 1 else 'are'} NoSession: {why}.")
+    if verdicts["PoolEmpty"]:
+        print(f"\n{counted(verdicts['PoolEmpty'], 'frame')} found their pool full: give a larger one by --pool. The lines about pools say how large.")
+
+
+def tell_needs(realms: TwoRealms) -> None:
+    """How large the pools have to be, whatever they are now."""
+    print("\nPools, if only hosts that others contact first had a static, by the times of docs/OPERATING.md")
+    for side in (0, 1):
+        need = realms.needs.by_side[1 - side]
+        fixed = sum(host.contacted_first for host in realms.hosts.values() if host.side != side)
+        print(f"  {pool_line(side, need, fixed)}")
+
+
+def pool_line(side: int, need: Need, fixed: int) -> str:
+    """What a pool needs."""
+    least = fixed + need.most
+    busiest = (
+        f", {need.most} by use at the busiest moment ({second_of(need.most_at // SECOND).replace('T', ' ')} UTC) and {need.in_hour} in the busiest hour"
+        if need.most
+        else ""
+    )
+    return f"{SIDES[side]} pool, for hosts of the {SIDES[1 - side]} realm: {counted(fixed, 'static')}{busiest}. So {least} address{'' if least == 1 else 'es'} at least, and {least + -(-least // 2)} with half as many again to grow"
+
+
+def again_of(called: str, capture: str, left: list[IPv4Network]) -> list[str]:
+    """The words of this try."""
+    return [called, "try", quoted(capture), "--left", *map(str, left)]
