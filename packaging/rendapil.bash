@@ -1,6 +1,6 @@
 # Completion of rendapil for bash.
 _rendapil() {
-    local cur prev words cword commands="run audit make check explain try plan compare export test"
+    local cur prev words cword commands="run audit make check explain try fill plan compare export test"
     [ ! -e "$(dirname "$(readlink -f "$(type -P "$1")")")/crates.txt" ] || commands+=" prove"
     _init_completion || return
     if [ "$cword" -eq 1 ]; then
@@ -8,8 +8,9 @@ _rendapil() {
         return
     fi
     case "${words[1]} $cur" in
-    "explain -"*) mapfile -t COMPREPLY < <(compgen -W "--statics --json --events --settings --html --pcapng --payloads --help" -- "$cur") ;;
-    "try -"*) mapfile -t COMPREPLY < <(compgen -W "--left --same --pool --keep-sums --keep-cut --out --help" -- "$cur") ;;
+    "explain -"*) mapfile -t COMPREPLY < <(compgen -W "--statics --json --events --settings --html --pcapng --payloads --of --help" -- "$cur") ;;
+    "try -"*) mapfile -t COMPREPLY < <(compgen -W "--left --same --public --pool --keep-sums --keep-cut --out --help" -- "$cur") ;;
+    "fill -"*) mapfile -t COMPREPLY < <(compgen -W "--help" -- "$cur") ;;
     "plan -"*) mapfile -t COMPREPLY < <(compgen -W "--left --right --no-same --out --help" -- "$cur") ;;
     "compare -"*) mapfile -t COMPREPLY < <(compgen -W "--left --right --left-mac --right-mac --clocks --window --any-ttl --any-port --lossy --keep --json --help" -- "$cur") ;;
     "export -"*) mapfile -t COMPREPLY < <(compgen -W "--left --right --left-via --right-via --table --help" -- "$cur") ;;

@@ -58,6 +58,7 @@ def time_of(moment: int) -> str:
     return f"{second_of(seconds)}.{fraction:09d}Z"
 
 
+@lru_cache(maxsize=8192)
 def address_of(octets: bytes) -> str:
     """An address. ValueError where there are other than four octets."""
     one, two, three, four = octets

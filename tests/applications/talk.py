@@ -1,4 +1,4 @@
-"""Clients of sessions for which no program of Debian does it by itself: `talk.py irc|irc-chat|tracker|getaddr`."""
+"""Clients of sessions for which no program of Debian does it by itself: `talk.py irc|irc-chat|tracker|getaddr|smtpd|rtspd|socks`."""
 import socket
 import struct
 import sys
@@ -45,10 +45,64 @@ def getaddr() -> None:
     print(one.recv(999))
 
 
+def smtpd() -> None:
+    """A server that takes one mail."""
+    listener = socket.create_server(("10.2.0.9", 25))
+    user, (host, _) = listener.accept()
+    user.sendall(b"220 mail.example.org ESMTP\r\n")
+    is_mail = False
+    for line in user.makefile("rb"):
+        word = line[:4].upper()
+        if is_mail:
+            is_mail = line != b".\r\n"
+            if not is_mail:
+                user.sendall(b"250 taken\r\n")
+        elif word == b"DATA":
+            is_mail = True
+            user.sendall(b"354 go on\r\n")
+        elif word == b"QUIT":
+            user.sendall(b"221 bye\r\n")
+            return
+        else:
+            user.sendall(f"250 mail.example.org greets {host}\r\n".encode() if word in (b"EHLO", b"HELO") else b"250 ok\r\n")
+
+
+def rtspd() -> None:
+    """A server of a test tone, by gst-rtsp-server."""
+    import gi
+
+    gi.require_version("Gst", "1.0")
+    gi.require_version("GstRtspServer", "1.0")
+    from gi.repository import GLib, Gst, GstRtspServer
+
+    Gst.init(None)
+    server = GstRtspServer.RTSPServer()
+    server.set_address("10.2.0.9")
+    factory = GstRtspServer.RTSPMediaFactory()
+    factory.set_launch("( audiotestsrc is-live=true ! audio/x-raw,rate=8000,channels=1 ! mulawenc ! rtppcmupay name=pay0 pt=0 )")
+    server.get_mount_points().add_factory("/test", factory)
+    server.attach(None)
+    GLib.MainLoop().run()
+
+
+def socks() -> None:
+    """Asks a proxy to bind, and to relay UDP (RFC 1928)."""
+    for command in (2, 3):
+        one = socket.create_connection(("10.2.0.9", 1080), 3)
+        one.sendall(b"\x05\x01\x00")
+        one.recv(9)
+        one.sendall(b"\x05" + bytes([command]) + b"\x00\x01" + socket.inet_aton("10.2.0.8" if command == 2 else "0.0.0.0") + b"\0\0")
+        print(one.recv(99))
+        one.close()
+
+
 if __name__ == "__main__":
     {
         "irc": lambda: irc("PRIVMSG bob :\x01DCC SEND file 167837701 4000 9\x01\r\n"),
         "irc-chat": lambda: irc("PRIVMSG bob :hello\r\n"),
         "tracker": tracker,
         "getaddr": getaddr,
+        "smtpd": smtpd,
+        "rtspd": rtspd,
+        "socks": socks,
     }[sys.argv[1]]()

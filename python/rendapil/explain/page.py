@@ -7,6 +7,7 @@ from typing import Any, NamedTuple
 
 from rendapil.bindings import SIDES, Binding
 from rendapil.frames import Verdict
+from rendapil.explain.changes import Changes, said_of
 from rendapil.explain.gathered import PARTS, Gathered, Parts
 from rendapil.explain.pictures import BOTTOM, HEIGHT, LEFT, TOP, WIDTH, Axis, Picture, Tick, clock, filled, span, stacked
 from rendapil.explain.story import Story
@@ -55,8 +56,8 @@ COLOURS = 7
 class Page:
     """Writes the page of a run."""
 
-    def __init__(self, verdicts: dict[str, Verdict], names: dict[str, str]) -> None:
-        self.verdicts, self.names = verdicts, names
+    def __init__(self, verdicts: dict[str, Verdict], names: dict[str, str], of: str = "") -> None:
+        self.verdicts, self.names, self.of = verdicts, names, of
         self.classes: dict[str, str] = {}
 
     def group_of(self, verdict: str) -> str:
@@ -105,7 +106,7 @@ class Page:
             found.append((kind, pictures))
         return found
 
-    def written(self, run: Gathered, story: Story, scan: Scan) -> str:
+    def written(self, run: Gathered, story: Story, scan: Scan, changes: Changes) -> str:
         """The page."""
         from jinja2 import Environment, FileSystemLoader, StrictUndefined
 

@@ -222,6 +222,8 @@ def by_port(protocol: int, port: int, far_port: int) -> tuple[Application | None
 def application_of(protocol: int, port: int, far_port: int, payload: bytes) -> tuple[Application, int]:
     """The application of a flow by its ports and by a payload of it, and the port of its server."""
     known, server = by_port(protocol, port, far_port)
+    if rpc := rpc_of(protocol, payload):
+        return BY_NAME[rpc], far_port
     is_tls = protocol == TCP and TLS.match(payload)
     if known and known.name == "FTP" and is_tls:
         return BY_NAME["FTP over TLS"], server

@@ -33,6 +33,7 @@ from rendapil.payloads.addresses import (
 from rendapil.payloads.applications import BREAKS, BY_NAME, BY_PORT, COPES, HIDDEN, TELLS, UNSURE, Application, application_of, said_in
 from rendapil.payloads.fields import WEB, Place, field_of
 from rendapil.payloads.kept import (
+    ALIAS,
     APPS,
     BLOCK,
     BLOCKS,
@@ -64,7 +65,7 @@ from rendapil.payloads.kept import (
     chance_of,
     meaning_in,
 )
-from rendapil.payloads.structures import DECODERS
+from rendapil.payloads.structures import BOUND, DECODERS, NAMED_TO_PROXY, SEEN, TO_CONNECT
 
 __all__ = ["HOST", "MAYBE", "Meant", "Scan", "example_of", "lines_of", "meaning_in", "summary_of", "told_rows"]
 
@@ -148,7 +149,7 @@ class Scan:
         """Looks into a payload, and notes what is found."""
         app = flow.app
         app.trials += len(payload) * flow.weight
-        if not flow.is_served and payload[:4] in METHODS:
+        if payload[:4] in METHODS or app.of.name == "SOCKS" and not flow.is_served:
             flow.asked = payload[:LONG]
         finds = self._finds(flow, payload)
         if flow.is_changed:
@@ -290,9 +291,12 @@ class Scan:
             of = BY_NAME[name]
             self._rename(flow, of)
         used = one.field
+        if used is BOUND and asked_of(self._flows, flow)[1:2] == b"\x01":
+            used = SEEN
+        if used is TO_CONNECT and meant.role not in (ITSELF, HOST, ALIAS):
+            used = NAMED_TO_PROXY
         if not used and one.form == TEXT:
-            asked = self._flows[flow.back].asked if flow.is_served and flow.back in self._flows else b""
-            used = field_of(Place(of.name, payload, one, flow.is_served, meant.role in (PEER, PEER_OWN, FAR), asked))
+            used = field_of(Place(of.name, payload, one, flow.is_served, meant.role in (PEER, PEER_OWN, FAR), asked_of(self._flows, flow)))
         if used and used.application:
             of = BY_NAME[used.application]
         return (flow.app if of is flow.app.of else self._counted(of, flow)), used
@@ -358,6 +362,11 @@ class Scan:
         """The applications that are known to carry addresses, and can't be read, and those inside TLS and QUIC that tell nothing."""
         sealed = [app for app in self.apps.values() if app.of.weight == HIDDEN or app.of.name in ("TLS", "QUIC") and not row_of(app)]
         return sorted((app for app in sealed if app.flows > 0), key=lambda app: (app.of.weight != HIDDEN, -app.frames))
+
+
+def asked_of(flows: dict[bytes, Flow], flow: Flow) -> bytes:
+    """The last request of the other direction."""
+    return flows[flow.back].asked if flow.back in flows else b""
 
 
 def default_of(of: Application, role: str) -> str:
