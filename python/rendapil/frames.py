@@ -165,11 +165,21 @@ class Verdict(NamedTuple):
     group: str
     means: str
     todo: str
+    links: tuple[tuple[str, str], ...] = ()
 
 
 def words_of(markdown: str) -> str:
     """Text without links and marks."""
     return re.sub(r"\[([^]]*)\]\([^)]*\)", r"\1", markdown).replace("`", "").replace("**", "").strip()
+
+
+def parts_of(markdown: str) -> tuple[tuple[str, str], ...]:
+    """Text in parts, each with the link that it has, or nothing."""
+    parts = re.split(r"\[([^]]*)\]\(([^)]*)\)", markdown)
+    texts = [part.replace("`", "").replace("**", "") for part in parts]
+    found = [(texts[at], "") for at in range(0, len(texts), 3)]
+    links = [(texts[at], parts[at + 1]) for at in range(1, len(texts), 3)]
+    return tuple(one for pair in zip(found, [*links, ("", "")]) for one in pair if one[0])
 
 
 def verdicts_of() -> dict[str, Verdict]:
@@ -180,7 +190,7 @@ def verdicts_of() -> dict[str, Verdict]:
             if line.startswith("### "):
                 group = line[4:].strip()
             elif row := re.match(r"\| `(\w+)` \| \d+ \| (.*) \| (.*) \|$", line):
-                found[row[1]] = Verdict(group, words_of(row[2]), words_of(row[3]))
+                found[row[1]] = Verdict(group, words_of(row[2]), words_of(row[3]), parts_of(row[3]))
     return found
 
 

@@ -67,8 +67,13 @@ class Changes:
         if came[6] & 0x3F or came[7] or DNS_PORT not in struct.unpack_from(">HH", came, head) or len(went) < 28:
             return
         if came[9] == TCP:
-            starts = [head + (one[head + 12] >> 4) * 4 for one in (came, went) if len(one) >= head + 20]
-            self.segments += len(starts) == 2 and came[starts[0] :] != went[starts[1] :]
+            parts = [one[head + (one[head + 12] >> 4) * 4 : int.from_bytes(one[2:4])] for one in (came, went) if len(one) >= head + 20]
+            if len(parts) == 2 and parts[0] != parts[1]:
+                is_whole = all(len(part) > 14 and int.from_bytes(part[:2]) == len(part) - 2 for part in parts)
+                if is_whole and parts[0][4] & 0x80:
+                    self._note(parts[0][2:], parts[1][2:], event.side)
+                else:
+                    self.segments += 1
         elif came[head + 8 :] != went[head + 8 :] and came[head + 10 : head + 11] >= b"\x80":
             self._note(came[head + 8 :], went[head + 8 :], event.side)
 

@@ -300,7 +300,17 @@ def parsed() -> argparse.Namespace:
     parser.add_argument("--html", metavar="FILE", help="write a page with pictures of the run to FILE, and nothing to standard output")
     parser.add_argument("--pcapng", metavar="FILE", help="write all four captures to FILE as one, with comments, and nothing to standard output")
     parser.add_argument("--of", metavar="NAME", default="", help="the name of the capture that the run was made of, for the title of the page")
+    parser.add_argument("--notes", metavar="FILE", default="", help=argparse.SUPPRESS)
     return parser.parse_args()
+
+
+def notes_in(path: str) -> dict[str, Any]:
+    """What `try` has to tell on the page: the command, what was left out, and how large pools have to be."""
+    if not path:
+        return {}
+    with open(path, encoding="utf-8") as file:
+        found: dict[str, Any] = json.load(file)
+    return found
 
 
 def looked_into(story: Story) -> "tuple[Scan, Changes]":
@@ -336,6 +346,8 @@ def explain(words: argparse.Namespace) -> None:
             from rendapil.explain.page import Page
 
             gathered = Gathered(story.table)
+            page = Page(verdicts, {name: shown(path) for name, path in files.items()}, shown(words.of), notes_in(words.notes))
+            story.behinds.append(page.talks.take)
             story.befores.append(gathered.before)
             story.behinds.append(gathered.take)
         if words.events:
@@ -348,8 +360,7 @@ def explain(words: argparse.Namespace) -> None:
         if told:
             print("\033[K", end="", file=sys.stderr, flush=True)
         if words.html and scan and changes:
-            page = Page(verdicts, {name: shown(path) for name, path in files.items()}, shown(words.of)).written(gathered, story, scan, changes)
-            behind.enter_context(written(words.html, "w")).write(page)
+            behind.enter_context(written(words.html, "w")).write(page.written(gathered, story, scan, changes))
     if words.new_settings:
         with written(words.new_settings, "w") as file:
             file.write(settings_with(text, worth_keeping(story)))

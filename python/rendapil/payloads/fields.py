@@ -10,8 +10,8 @@ Rule = tuple[re.Pattern[bytes], Field]
 
 
 class Place(NamedTuple):
-    """An address where it stands: the application, the payload, whether its server sends it, whether it means an end of the connection's other realm,
-    and what the client asked for last."""
+    """An address where it stands: the application, the payload, whether its server sends it, whether it means no host of the sender's realm and none that
+    has an alias there, so that the reader may know it, and what the client asked for last."""
 
     application: str
     payload: bytes

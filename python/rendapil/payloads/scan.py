@@ -296,7 +296,7 @@ class Scan:
         if used is TO_CONNECT and meant.role not in (ITSELF, HOST, ALIAS):
             used = NAMED_TO_PROXY
         if not used and one.form == TEXT:
-            used = field_of(Place(of.name, payload, one, flow.is_served, meant.role in (PEER, PEER_OWN, FAR), asked_of(self._flows, flow)))
+            used = field_of(Place(of.name, payload, one, flow.is_served, meant.role not in (ITSELF, HOST, ALIAS), asked_of(self._flows, flow)))
         if used and used.application:
             of = BY_NAME[used.application]
         return (flow.app if of is flow.app.of else self._counted(of, flow)), used

@@ -35,6 +35,7 @@ ROUTE = Field("routes lead to it", BREAKS)
 NODE = Field("the address of a node, to which others connect", BREAKS)
 INTERFACE = Field("an interface for multichannel: clients fall back on the first connection", TELLS)
 RPC_BOUND = Field("where the server of a domain is", BREAKS)
+CERTIFIED = Field("a certificate is valid for the address", TELLS)
 SERVERS = Field("servers, to which players connect", BREAKS)
 
 
@@ -317,6 +318,12 @@ def game_servers(payload: bytes) -> Iterator[Find]:
         yield from compact(payload, 6, len(payload), 6, SERVERS)
 
 
+def tls(payload: bytes) -> Iterator[Find]:
+    """The addresses for which a certificate is valid."""
+    if payload[:1] == b"\x16" or b"\x06\x03\x55\x1d\x11" in payload:
+        yield from all_behind(payload, re.compile(rb"\x87\x04"), CERTIFIED)
+
+
 DECODERS: dict[str, Callable[[bytes], Iterator[Find]]] = {
     "Kerberos": kerberos,
     "XDMCP": xdmcp,
@@ -339,5 +346,7 @@ DECODERS: dict[str, Callable[[bytes], Iterator[Find]]] = {
     "SMB": smb,
     "NIS": nis,
     "lists of game servers": game_servers,
+    "TLS": tls,
+    "DNS over TLS": tls,
 }
 """What finds addresses in the messages of an application."""

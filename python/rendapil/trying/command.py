@@ -3,7 +3,9 @@ a gateway between them would take, runs the gateway, and tells. Without --left i
 needs scapy, and for the page jinja2 (Debian: python3-scapy, python3-jinja2)."""
 import argparse
 import contextlib
+import json
 import os
+import shlex
 import shutil
 import subprocess
 import sys
@@ -21,7 +23,7 @@ from rendapil.places import TOP
 from rendapil.public import public_blocks
 from rendapil.sayings import Fault, called, quoted
 from rendapil.trying.listing import tell_pairs
-from rendapil.trying.telling import again_of, lost_fragments, tell_limits, tell_needs, tell_realms, tell_verdicts, verdicts_in
+from rendapil.trying.telling import again_of, lost_fragments, notes_of, tell_limits, tell_needs, tell_realms, tell_verdicts, verdicts_in
 from rendapil.trying.two_realms import TwoRealms, block, write_captures
 
 NAMES = ("settings.toml", "left.pcap", "right.pcap", "left-out.pcap", "right-out.pcap", "report.txt", "run.html", "run.pcapng")
@@ -118,13 +120,16 @@ def try_it(words: argparse.Namespace, capture: str) -> int:
     tell_limits(verdicts, realms, again_of(called(), words.capture, words.left))
     tell_needs(realms)
     print(flush=True)
-    return shown_by_explain(words, files, run)
+    with tempfile.NamedTemporaryFile("w", prefix="rendapil-", encoding="utf-8") as notes:
+        json.dump(notes_of(realms, counts, lost, shlex.join([called(), "try", *sys.argv[1:]])), notes)
+        notes.flush()
+        return shown_by_explain(words, files, run, notes.name)
 
 
-def shown_by_explain(words: argparse.Namespace, files: dict[str, str], run: list[str]) -> int:
+def shown_by_explain(words: argparse.Namespace, files: dict[str, str], run: list[str], notes: str) -> int:
     """Tells what breaks, and writes the page and the capture with comments. The status."""
     page = ["--html", files["run.html"]] if find_spec("jinja2") or debian_has("jinja2") else []
-    about = ["--of", words.capture] if os.path.isfile(words.capture) else []
+    about = ["--of", os.path.basename(words.capture) if words.capture != "-" else "standard input", "--notes", notes]
     forms = [*page, *about, "--payloads", "--pcapng", files["run.pcapng"]]
     status = subprocess.run([TOP / "rendapil", "explain", *forms, *run], check=False).returncode
     look = f"open {shown(files['run.html'])} in a browser" if page else "for a page with pictures: apt-get install python3-jinja2"

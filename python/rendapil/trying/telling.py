@@ -1,6 +1,6 @@
 """What came of a try, in words."""
 from collections import Counter
-from ipaddress import IPv4Network
+from ipaddress import IPv4Address, IPv4Network
 
 from rendapil.bindings import SIDES
 from rendapil.files import Capture, lines, shown
@@ -9,8 +9,8 @@ from rendapil.sayings import quoted
 from rendapil.trying.needs import SECOND, Need
 from rendapil.trying.two_realms import TwoRealms
 
-FRAGMENTS = 100_000
-"""The most packets whose fragments are followed at once."""
+FRAGMENTS, STATICS = 100_000, 50
+"""The most packets whose fragments are followed at once, and the most hosts with statics that are named on the page."""
 
 
 def counted(count: int, name: str) -> str:
@@ -25,9 +25,9 @@ def tell_realms(realms: TwoRealms, counts: list[int], folder: str) -> None:
     print(
         f"{counted(total, 'frame')} {'goes' if total == 1 else 'go'} to the gateway, {counts[0]} of the left realm and {counts[1]} of the right one."
     )
+    need = f"{counted(needy, 'host')} of {hosts} {'is' if needy == 1 else 'are'} contacted before {'it speaks: it needs' if needy == 1 else 'they speak: these need'} a static."
     print(
-        f"{needy} of {counted(hosts, 'host')} {'is' if needy == 1 else 'are'} contacted before they speak: these need a static. "
-        f"{shown(folder)}/settings.toml is a draft for your own settings."
+        f"{need if needy else 'No host is contacted before it speaks, so none needs a static.'} {shown(folder)}/settings.toml is a draft for your own settings."
     )
     if same := realms.public_seen():
         mean = "public address means" if same == 1 else "public addresses mean"
@@ -135,13 +135,42 @@ def tell_needs(realms: TwoRealms) -> None:
 
 def pool_line(side: int, need: Need, fixed: int) -> str:
     """What a pool needs."""
-    least = fixed + need.most
-    busiest = (
-        f", {need.most} by use at the busiest moment ({second_of(need.most_at // SECOND).replace('T', ' ')} UTC) and {need.in_hour} in the busiest hour"
-        if need.most
-        else ""
-    )
-    return f"{SIDES[side]} pool, for hosts of the {SIDES[1 - side]} realm: {counted(fixed, 'static')}{busiest}. So {least} address{'' if least == 1 else 'es'} at least, and {least + -(-least // 2)} with half as many again to grow"
+    least, front = fixed + need.most, f"{SIDES[side]} pool, for hosts of the {SIDES[1 - side]} realm"
+    if not least:
+        return f"{front}: nothing, since none of these has an alias"
+    when = second_of(need.most_at // SECOND).replace("T", " ")
+    busiest = f", {need.most} by use at the busiest moment ({when} UTC) and {need.in_hour} in the busiest hour" if need.most else ""
+    return f"{front}: {counted(fixed, 'static')}{busiest}. So {least} address{'' if least == 1 else 'es'} at least; {least + -(-least // 2)} leave room to grow by half"
+
+
+def notes_of(realms: TwoRealms, counts: list[int], lost: int, command: str) -> dict[str, object]:
+    """The same for the page: the command, what was left out and mended, hosts that need a static, and how large pools have to be."""
+    left_out = [(count, what) for what, count in sorted(realms.left_out.items(), key=lambda one: -one[1])]
+    changed = [
+        (realms.filled, "cut by the capture, and filled up with zeros"),
+        (realms.mended, "whose checksum was mended"),
+        (lost, "held as fragments, whose packet never went out"),
+    ]
+    statics = [
+        (str(IPv4Address(address)), SIDES[host.side], [name for name, _ in host.ports.most_common(3)])
+        for address, host in realms.hosts.items()
+        if host.contacted_first
+    ]
+    pools = [
+        pool_line(side, realms.needs.by_side[1 - side], sum(host.contacted_first for host in realms.hosts.values() if host.side != side))
+        for side in (0, 1)
+    ]
+    odd = [f"{line[0].upper()}{line[1:]}." for line in realms.oddities.lines()]
+    return {
+        **{
+            "command": shown(command),
+            "went": sum(counts),
+            "left_out": left_out,
+            "changed": [one for one in changed if one[0]],
+            "lines": realms.lines,
+        },
+        **{"statics": statics[:STATICS], "statics_count": len(statics), "pools": pools, "odd": odd},
+    }
 
 
 def again_of(called: str, capture: str, left: list[IPv4Network]) -> list[str]:
