@@ -108,6 +108,10 @@ def tell_payloads(scan: "Scan", changes: "Changes") -> None:
 def tell(story: Story, scan: "Scan", changes: "Changes") -> None:
     """All of it as text."""
     print(story.end)
+    if story.held:
+        print(
+            f"{story.held} events more were held: fragments that waited for others of their packet. What passed, was refused and was held are all events"
+        )
     print(f"{clock(story.first)} to {clock(story.last)} UTC" if story.first else "no events")
     for side, pool in zip(SIDES, story.table.pools):
         tell_pool(side, pool)
@@ -165,7 +169,14 @@ def tell_json(story: Story, scan: "Scan", changes: "Changes") -> None:
         }
         for side, pool in zip(SIDES, story.table.pools)
     }
-    whole = {"first": story.first, "last": story.last, **times(story, "first", "last"), "end": story.end, "heartbeats": story.heartbeats}
+    whole = {
+        "first": story.first,
+        "last": story.last,
+        **times(story, "first", "last"),
+        "end": story.end,
+        "held": story.held,
+        "heartbeats": story.heartbeats,
+    }
     whole |= {"missed": story.missed + story.table.missed, "bindings_left_out": story.left_out, "pools": pools}
     print("{" + ",\n".join(f" {json.dumps(key)}: {json.dumps(value)}" for key, value in whole.items()) + ",")
     print_rows("bindings", map(binding_row, story.used()), ",")

@@ -121,7 +121,7 @@ def try_it(words: argparse.Namespace, capture: str) -> int:
     tell_needs(realms)
     print(flush=True)
     with tempfile.NamedTemporaryFile("w", prefix="rendapil-", encoding="utf-8") as notes:
-        json.dump(notes_of(realms, counts, lost, shlex.join([called(), "try", *sys.argv[1:]])), notes)
+        json.dump(notes_of(realms, verdicts, lost, shlex.join([called(), "try", *sys.argv[1:]])), notes)
         notes.flush()
         return shown_by_explain(words, files, run, notes.name)
 

@@ -97,31 +97,42 @@ def tell_verdicts(verdicts: Counter[str], lost: int) -> None:
         print(f"{count:8}  {name}{': ' + said if said else ''}")
 
 
-def tell_limits(verdicts: Counter[str], realms: TwoRealms, again: list[str]) -> None:
+def limits(verdicts: Counter[str], realms: TwoRealms) -> list[str]:
     """Where an open loop bites, and what helps."""
-    stuck = verdicts["Gap"] + verdicts["AckAhead"]
+    found = []
+    stuck, late = verdicts["Gap"] + verdicts["AckAhead"], verdicts["NoSession"]
     if 10 * stuck > verdicts.total():
-        print(
-            f"\n{counted(stuck, 'frame')} {'is' if stuck == 1 else 'are'} Gap or AckAhead. The hosts of a capture don't answer anew: where the gateway makes a message longer or shorter, or where the"
+        why = (
+            "Here most follow frames that the capture has cut (Snapped): capture whole frames, by tcpdump -s 0."
+            if verdicts["Snapped"]
+            else "Public addresses mean the same hosts in both realms in most networks."
+            if realms.public_names()
+            else "Give addresses that mean the same hosts in both realms by --same."
         )
-        print("capture misses a frame, they go on as if nothing had happened. A live gateway doesn't meet this.", end=" ")
-        if names := realms.public_names():
-            print(
-                f"Public addresses mean the same hosts in both realms in most networks. So try:\n\n  {' '.join(again)} --same {' '.join(map(str, names))}"
-            )
-        elif verdicts["Snapped"]:
-            print("Here most follow frames that the capture has cut (Snapped): capture whole frames, by tcpdump -s 0.")
-        else:
-            print("Give addresses that mean the same hosts in both realms by --same.")
-    if 10 * verdicts["NoSession"] > verdicts.total():
+        found.append(
+            f"{counted(stuck, 'frame')} {'is' if stuck == 1 else 'are'} Gap or AckAhead. The hosts of a capture don't answer anew: where the gateway makes a message longer or shorter, "
+            f"or where the capture misses a frame, they go on as if nothing had happened. A live gateway doesn't meet this. {why}"
+        )
+    if 10 * late > verdicts.total():
         why = (
             "the capture has one direction of these connections alone. Capture where both directions pass"
             if realms.oddities.is_one_way
             else "the capture begins within these connections. Capture from before they begin"
         )
-        print(f"\n{counted(verdicts['NoSession'], 'frame')} {'is' if verdicts['NoSession'] == 1 else 'are'} NoSession: {why}.")
+        found.append(f"{counted(late, 'frame')} {'is' if late == 1 else 'are'} NoSession: {why}.")
     if verdicts["PoolEmpty"]:
-        print(f"\n{counted(verdicts['PoolEmpty'], 'frame')} found their pool full: give a larger one by --pool. The lines about pools say how large.")
+        found.append(
+            f"{counted(verdicts['PoolEmpty'], 'frame')} found their pool full: give a larger one by --pool. The lines about pools say how large."
+        )
+    return found
+
+
+def tell_limits(verdicts: Counter[str], realms: TwoRealms, again: list[str]) -> None:
+    """The same, with the command that helps."""
+    for line in limits(verdicts, realms):
+        print(f"\n{line}")
+        if " Gap " in line and not verdicts["Snapped"] and (names := realms.public_names()):
+            print(f"So try:\n\n  {' '.join(again)} --same {' '.join(map(str, names))}")
 
 
 def tell_needs(realms: TwoRealms) -> None:
@@ -143,7 +154,7 @@ def pool_line(side: int, need: Need, fixed: int) -> str:
     return f"{front}: {counted(fixed, 'static')}{busiest}. So {least} address{'' if least == 1 else 'es'} at least; {least + -(-least // 2)} leave room to grow by half"
 
 
-def notes_of(realms: TwoRealms, counts: list[int], lost: int, command: str) -> dict[str, object]:
+def notes_of(realms: TwoRealms, verdicts: Counter[str], lost: int, command: str) -> dict[str, object]:
     """The same for the page: the command, what was left out and mended, hosts that need a static, and how large pools have to be."""
     left_out = [(count, what) for what, count in sorted(realms.left_out.items(), key=lambda one: -one[1])]
     changed = [
@@ -160,11 +171,11 @@ def notes_of(realms: TwoRealms, counts: list[int], lost: int, command: str) -> d
         pool_line(side, realms.needs.by_side[1 - side], sum(host.contacted_first for host in realms.hosts.values() if host.side != side))
         for side in (0, 1)
     ]
-    odd = [f"{line[0].upper()}{line[1:]}." for line in realms.oddities.lines()]
+    odd = [f"{line[0].upper()}{line[1:]}." for line in realms.oddities.lines()] + limits(verdicts, realms)
     return {
         **{
             "command": shown(command),
-            "went": sum(counts),
+            "went": verdicts.total(),
             "left_out": left_out,
             "changed": [one for one in changed if one[0]],
             "lines": realms.lines,
