@@ -95,30 +95,26 @@ def tell_refusals(story: Story) -> None:
         print(f"and {len(rows) - len(shown_rows)} rows more: --json gives all")
 
 
-def tell_payloads(scan: "Scan", changes: "Changes") -> None:
-    """Which DNS answers were changed, and which applications have addresses in their payloads that the gateway leaves alone."""
+def tell_payloads(scan: "Scan", changes: "Changes | None" = None) -> None:
+    """Which DNS answers were changed, where that is asked for, and which applications have addresses in their payloads that the gateway leaves alone."""
     from rendapil.explain.changes import lines_of as lines_of_changes
     from rendapil.payloads.scan import lines_of
 
-    if changed := list(lines_of_changes(changes)):
+    if changes and (changed := list(lines_of_changes(changes))):
         print(*changed, sep="\n", end="\n\n")
     print(*lines_of(scan), sep="\n")
 
 
-def tell(story: Story, scan: "Scan", changes: "Changes") -> None:
+def tell(story: Story, scan: "Scan") -> None:
     """All of it as text."""
     print(story.end)
-    if story.held:
-        print(
-            f"{story.held} events more were held: fragments that waited for others of their packet. What passed, was refused and was held are all events"
-        )
     print(f"{clock(story.first)} to {clock(story.last)} UTC" if story.first else "no events")
     for side, pool in zip(SIDES, story.table.pools):
         tell_pool(side, pool)
     tell_bindings(story)
     tell_refusals(story)
     print()
-    tell_payloads(scan, changes)
+    tell_payloads(scan)
     if missed := story.missed + story.table.missed:
         print(f"\nFrames that could not be followed: {missed}. What is said of bindings may be wrong from the first of them on")
 
@@ -382,7 +378,7 @@ def explain(words: argparse.Namespace) -> None:
     elif scan and changes and words.json:
         tell_json(story, scan, changes)
     elif scan and changes and not (outputs or words.events):
-        tell(story, scan, changes)
+        tell(story, scan)
 
 
 def explain_files(words: argparse.Namespace) -> int:

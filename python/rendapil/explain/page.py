@@ -61,7 +61,7 @@ class Page:
     """Writes the page of a run."""
 
     def __init__(self, verdicts: dict[str, Verdict], names: dict[str, str], of: str = "", notes: dict[str, Any] | None = None) -> None:
-        self.verdicts, self.names, self.of, self.notes = verdicts, names, of, notes or {}
+        self.verdicts, self.names, self.of, self.notes = verdicts, names, of, notes or {"command": "", "odd": [], "pools": []}
         self.talks = Talks()
         self.texts: dict[str, Text] = {}
         self.classes: dict[str, str] = {}
