@@ -1,9 +1,10 @@
 """The datagrams of any capture that python3-scapy reads: pcap or pcapng, packed by gzip or not, of any mix of links."""
-import heapq
 import logging
 import struct
 import sys
 import zlib
+from bisect import bisect_right
+from collections import deque
 from collections.abc import Iterator
 from contextlib import closing
 from functools import lru_cache
@@ -45,17 +46,25 @@ class Record(NamedTuple):
 
 def records(path: str) -> Iterator[Record]:
     """The frames of a capture, by their stamps: where it has several interfaces they may be a little out of order. Where time begins anew, so does this."""
-    waiting: list[tuple[int, int, Record]] = []
-    given = 0
-    for number, record in enumerate(read(path)):
-        if record.moment < given:
-            yield from (one for *_, one in sorted(waiting))
-            waiting.clear()
-        heapq.heappush(waiting, (record.moment, number, record))
+    waiting: deque[Record] = deque()
+    given = latest = 0
+    for record in read(path):
+        moment = record.moment
+        if moment >= latest:
+            latest = moment
+            waiting.append(record)
+        else:
+            if moment < given:
+                yield from waiting
+                waiting.clear()
+                latest = moment
+            place = bisect_right(waiting, moment, key=lambda one: one.moment)
+            waiting.insert(place, record)
         if len(waiting) > WINDOW:
-            given, _, first = heapq.heappop(waiting)
+            first = waiting.popleft()
+            given = first.moment
             yield first
-    yield from (one for *_, one in sorted(waiting))
+    yield from waiting
 
 
 def read(path: str) -> Iterator[Record]:

@@ -127,9 +127,14 @@ def dns_lines(message: bytes) -> list[str]:
         return [f"a DNS message of {len(message)} bytes"]
 
 
+SPOKEN = (FTP_PORT.to_bytes(2), DNS_PORT.to_bytes(2))
+"""Ports whose payloads are told in words."""
+
+
 def spoken(datagram: bytes) -> list[str]:
     """What a datagram says in words, if it is of an FTP control connection or of DNS over UDP."""
-    if int.from_bytes(datagram[6:8]) & 0x3FFF:
+    head = (datagram[0] & 15) * 4
+    if not (datagram[head : head + 2] in SPOKEN or datagram[head + 2 : head + 4] in SPOKEN) or int.from_bytes(datagram[6:8]) & 0x3FFF:
         return []
     try:
         if datagram[9] == TCP:

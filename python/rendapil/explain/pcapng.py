@@ -45,9 +45,9 @@ class Commented:
         if event.is_heartbeat:
             return
         self._put(2 * event.side, event.moment, event.frame, self._said(event))
+        came = f": it came as {ways(event.datagram)}" if event.sent and event.datagram else ""
         for number, frame in enumerate(event.sent, 1):
             of = f" ({number} of {len(event.sent)})" if len(event.sent) > 1 else ""
-            came = f": it came as {ways(event.datagram)}" if event.datagram else ""
             self._put(2 * (1 - event.side) + 1, event.moment, frame, f"event {event.number} {SIDES[event.side]}, sent{of}{came}")
 
     def _said(self, event: Event) -> str:

@@ -10,11 +10,12 @@ import shutil
 import subprocess
 import sys
 import tempfile
+import time
 from collections.abc import Iterable, Iterator
 from importlib.util import find_spec
 from typing import BinaryIO
 
-from rendapil.any_capture import records
+from rendapil.any_capture import Record, records
 from rendapil.ending import ended
 from rendapil.files import shown
 from rendapil.kinds import PACKED
@@ -78,11 +79,25 @@ def refuse_overwriting(paths: Iterable[str], capture: str) -> None:
             raise Fault(f"{shown(path)} is the capture itself, and would be overwritten: give another folder by --out")
 
 
+def watched(capture: str, what: str) -> Iterator[Record]:
+    """The frames of a capture. Where somebody looks on, a line on the terminal tells once a second how many were taken."""
+    if not sys.stderr.isatty():
+        yield from records(capture)
+        return
+    told = time.monotonic()
+    for number, frame in enumerate(records(capture)):
+        if not number % 1024 and time.monotonic() >= told + 1:
+            told = time.monotonic()
+            print(f"\r\033[Krendapil try: {number:,} frames {what}\r", end="", file=sys.stderr, flush=True)
+        yield frame
+    print("\033[K", end="", file=sys.stderr, flush=True)
+
+
 def realms_of(words: argparse.Namespace, capture: str) -> TwoRealms:
     """The two realms of a capture."""
     same = words.same + ([] if words.public else public_blocks(words.left))
     realms = TwoRealms(words.left, same, not words.keep_sums, words.pool or 0, not words.keep_cut)
-    realms.survey(records(capture))
+    realms.survey(watched(capture, "looked at"))
     if not realms.crossed:
         raise Fault(
             f"no frame of {shown(words.capture)} goes from one realm to the other: '{called()} try {quoted(words.capture)}' lists who speaks with whom"
@@ -107,7 +122,7 @@ def try_it(words: argparse.Namespace, capture: str) -> int:
     files = files_in(words)
     with open(files["settings.toml"], "w", encoding="ascii") as file:
         file.write(realms.settings())
-    counts = write_captures([files["left.pcap"], files["right.pcap"]], realms.crossing(records(capture)))
+    counts = write_captures([files["left.pcap"], files["right.pcap"]], realms.crossing(watched(capture, "written for the gateway")))
     tell_realms(realms, counts, words.out)
     sys.stdout.flush()
     run = [files[name] for name in NAMES[:6]]

@@ -17,14 +17,14 @@ class Oddities:
     def __init__(self) -> None:
         self.doubled = self.looked_at = 0
         self.tunnels: Counter[str] = Counter()
-        self._recent: dict[bytes, int] = {}
+        self._recent: dict[int, int] = {}
         self._ways: dict[bytes, int] = {}
 
     def take(self, packet: Packet) -> None:
         """Takes a datagram."""
         octets, head = packet.octets, packet.head
         self.looked_at += 1
-        key = bytes(octets[2:8] + octets[9:10] + octets[12:20] + octets[head : head + 16] + octets[-8:])
+        key = hash((bytes(octets[2:8]), octets[9], bytes(octets[12 : head + 16]), bytes(octets[-8:])))
         if octets[4:6] != b"\0\0" or packet.protocol == TCP and packet.total > head + 20:
             self.doubled += key in self._recent
             self._recent[key] = 1
