@@ -153,7 +153,7 @@ def words_at(payload: bytes, one: Find) -> str:
         front = b"(hidden) " if SECRET.match(front) else USER.sub(b"//(hidden)@", front)[-40:]
         return "".join(chr(octet) if 32 <= octet < 127 else "." for octet in front + payload[one.at : one.end].replace(b"\0", b""))
     if one.form == FIELD:
-        return f"{one.field.says if one.field else ''}: {IPv4Address(one.address)}"
+        return f"{one.field.says if one.field else 'mapped into IPv6'}: {IPv4Address(one.address)}"
     if one.form == XORED:
         return f"a STUN attribute has {IPv4Address(one.address)}"
     octets = payload[one.at : one.end].hex(" ")

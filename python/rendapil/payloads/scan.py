@@ -65,7 +65,7 @@ from rendapil.payloads.kept import (
     chance_of,
     meaning_in,
 )
-from rendapil.payloads.structures import BOUND, DECODERS, NAMED_TO_PROXY, SEEN, TO_CONNECT
+from rendapil.payloads.structures import BOUND, DECODERS, MAPPED, NAMED_TO_PROXY, SEEN, TO_CONNECT, mapped
 
 __all__ = ["HOST", "MAYBE", "Meant", "Scan", "example_of", "lines_of", "meaning_in", "summary_of", "told_rows"]
 
@@ -221,6 +221,8 @@ class Scan:
             finds += decoder(payload)
         elif name in WEB and b":peers" in payload:
             finds += DECODERS["BitTorrent"](payload)
+        if MAPPED in payload and not any(one.form == FIELD for one in finds):
+            finds += mapped(payload)
         if prefixes := [prefix for prefix in flow.prefixes if prefix in payload]:
             finds += octets_in(payload, prefixes)
         if turned := [end for end in flow.turned if end in payload]:

@@ -35,6 +35,8 @@ ROUTE = Field("routes lead to it", BREAKS)
 NODE = Field("the address of a node, to which others connect", BREAKS)
 INTERFACE = Field("an interface for multichannel: clients fall back on the first connection", TELLS)
 RPC_BOUND = Field("where the server of a domain is", BREAKS)
+PEERS_TOLD = Field("peers connect to the peers that are told", BREAKS)
+VIRTUAL = Field("the virtual address of a group of routers", TELLS)
 CERTIFIED = Field("a certificate is valid for the address", TELLS)
 SERVERS = Field("servers, to which players connect", BREAKS)
 
@@ -144,7 +146,7 @@ def bgp(payload: bytes) -> Iterator[Find]:
         at += max(size, 19)
 
 
-DHCP_ADDRESSES = {1: None, 50: LEASE, 54: LEASE, 3: LEASE, 5: LEASE, 6: LEASE, 42: LEASE, 44: LEASE, 69: LEASE, 118: LEASE, 150: LEASE}
+DHCP_ADDRESSES = {28: LEASE, 92: LEASE, 50: LEASE, 54: LEASE, 3: LEASE, 5: LEASE, 6: LEASE, 42: LEASE, 44: LEASE, 69: LEASE, 118: LEASE, 150: LEASE}
 
 
 def dhcp(payload: bytes) -> Iterator[Find]:
@@ -266,6 +268,24 @@ def socks(payload: bytes) -> Iterator[Find]:
 
 
 MAPPED = bytes(10) + b"\xff\xff"
+IN_IPV6 = re.compile(re.escape(MAPPED))
+
+
+def mapped(payload: bytes) -> Iterator[Find]:
+    """Addresses that are mapped into IPv6: what stands before them is told by none else."""
+    return (one._replace(field=None) for one in all_behind(payload, IN_IPV6, ROUTER))
+
+
+def bitcoin(payload: bytes) -> Iterator[Find]:
+    """The peers that others are told."""
+    if payload[4:8] == b"addr":
+        yield from all_behind(payload, IN_IPV6, PEERS_TOLD)
+
+
+def hsrp(payload: bytes) -> Iterator[Find]:
+    """The virtual address (RFC 2281)."""
+    if len(payload) >= 20 and payload[0] == 0:
+        yield from at_place(payload, 16, VIRTUAL)
 
 
 def pcp(payload: bytes) -> Iterator[Find]:
@@ -347,6 +367,8 @@ DECODERS: dict[str, Callable[[bytes], Iterator[Find]]] = {
     "NIS": nis,
     "lists of game servers": game_servers,
     "TLS": tls,
+    "Bitcoin": bitcoin,
+    "HSRP": hsrp,
     "DNS over TLS": tls,
 }
 """What finds addresses in the messages of an application."""
