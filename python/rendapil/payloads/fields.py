@@ -125,13 +125,16 @@ LINKED = HTTP_RULES[-3:-1]
 """Rules of links: what has the address that the client asked for is taken as made of it."""
 
 WEB = ("HTTP", "SSDP, UPnP", "WS-Discovery, ONVIF", "Elasticsearch", "Consul, Nomad", "IPP", "BitTorrent", "TLS")
+PRINTER = Field("the URI of a printer, to which clients connect", BREAKS)
 MORE_RULES: dict[str, list[Rule]] = {
-    "IPP": [rule(rb"ipps?://$", BREAKS, "the URI of a printer, to which clients connect")],
+    "IPP": [(re.compile(rb"ipps?://$"), PRINTER)],
     "SSDP, UPnP": [rule(rb"^(?:Host|User-Agent|Server)\s*:", TELLS, "whom a request is for")],
     "WS-Discovery, ONVIF": [rule(rb"^(?:Host|User-Agent|Server)\s*:", TELLS, "whom a request is for")],
     "BitTorrent": [rule(rb"[?&]ip=$", BREAKS, "the tracker tells this address to other peers"), rule(rb"", TELLS, "whom a request is for")],
     "Consul, Nomad": [rule(rb"^(?:Host|User-Agent|Server)\s*:", TELLS, "whom a request is for")],
 }
+GET_REFERRALS = b"\x94\x01\x06\x00"
+"""FSCTL_DFS_GET_REFERRALS, as the answer of SMB 2 repeats it."""
 DFS = Field("a DFS link leads to it", BREAKS, "", "links by name, that DNS resolves in each realm")
 SHARE = Field("a path names the server", TELLS)
 REDIRECTED = Field("a redirect of the listener, which clients follow", BREAKS)
@@ -150,7 +153,8 @@ def of_http(place: Place, before: bytes) -> Field | None:
         host = host_of(place.asked)
         if field is HTTP_RULES[0][1] and host == address and is_made_of(place, before):
             return MADE_OF_HOST
-        return HOSTED if any(field is one for _, one in LINKED) and host == address else field
+        is_link = any(field is one for _, one in LINKED) or field is PRINTER
+        return HOSTED if is_link and (host == address or field is PRINTER and not place.is_served) else field
     if not place.is_served and not place.is_reader and PROXIED[0].search(before):
         return PROXIED[1]
     return None
@@ -174,7 +178,8 @@ def of_smb(place: Place, before: bytes) -> Field | None:
     front = place.payload[max(0, place.find.at - 4) : place.find.at]
     if front[-2:] != b"\\\0":
         return None
-    return DFS if place.is_served else SHARE
+    is_referral = place.payload[4:8] == b"\xffSMB" or GET_REFERRALS in place.payload[60:90]
+    return DFS if place.is_served and is_referral else SHARE
 
 
 VIA = re.compile(rb"(?i)^(?:Via|v)\s*:")
