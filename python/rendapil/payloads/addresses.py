@@ -128,7 +128,7 @@ def stun_in(payload: bytes) -> Iterator[Find]:
         if size == 8 and payload[at + 5] == 1:
             octets = payload[at + 8 : at + 12]
             is_xored = kind in (0x12, 0x16, 0x20, 0x8020) and payload[4:8] == COOKIE
-            if is_xored or kind in (1, 2, 4, 5, 0x12, 0x8023, 0x802B, 0x802C):
+            if is_xored or kind in (1, 2, 4, 5, 11, 0x11, 0x12, 0x8023, 0x802B, 0x802C):
                 yield Find(XORED, at + 8, at + 12, int.from_bytes(octets) ^ (int.from_bytes(COOKIE) if is_xored else 0))
         at += 4 + size + -size % 4
 

@@ -2,12 +2,13 @@
 import re
 import struct
 from collections.abc import Callable, Iterator
+from contextlib import suppress
 
 from rendapil.bindings import LABELS, Names
 from rendapil.payloads.addresses import FIELD, Field, Find
 from rendapil.payloads.applications import BREAKS, TELLS
 
-MOST = 64
+MOST = 256
 """The most addresses of a message."""
 
 TICKET = Field("a ticket that is valid only from these addresses", BREAKS)
@@ -16,6 +17,7 @@ ACCESS = Field("an access list of hosts: who may use the display", BREAKS, "", "
 PEERS = Field("peers connect to the peers that are told", BREAKS, "BitTorrent")
 OWN = Field("the address that a peer sees", TELLS, "BitTorrent")
 NEXT_HOP = Field("NEXT_HOP: routes lead there", BREAKS)
+PREFIX = Field("the prefix of a route", TELLS)
 ROUTER = Field("the identifier of a router", TELLS)
 RELAY = Field("the relay, to which the server answers", BREAKS)
 LEASE = Field("a lease, or what the client shall use", BREAKS)
@@ -128,21 +130,60 @@ def bittorrent(payload: bytes) -> Iterator[Find]:
         yield from at_place(payload, 84, PEERS)
 
 
+def prefixes(message: bytes, at: int, end: int, safi: int) -> Iterator[Find]:
+    """The prefixes of routes. Those of virtual networks have a label and a distinguisher in front."""
+    while at < min(end, len(message)):
+        front = 11 if safi == 128 else 0
+        bits = message[at] - 8 * front
+        size = -(-bits // 8)
+        if not 0 <= bits <= 32:
+            return
+        begin = at + 1 + front
+        if address := int.from_bytes(message[begin : begin + size].ljust(4, b"\0")):
+            yield Find(FIELD, begin, begin + size, address, False, PREFIX)
+        at = begin + size
+
+
+def attribute(message: bytes, kind: int, at: int, end: int) -> Iterator[Find]:
+    """The addresses in an attribute of a path (RFC 4271, 4456, 4760)."""
+    if kind == 3:
+        yield from at_place(message, at, NEXT_HOP)
+    elif kind == 7:
+        yield from at_place(message, end - 4, ROUTER)
+    elif kind in (9, 10):
+        for place in range(at, min(end, at + 4 * MOST) - 3, 4):
+            yield from at_place(message, place, ROUTER)
+    elif kind in (14, 15) and message[at : at + 2] == b"\0\x01":
+        safi, size = message[at + 2], message[at + 3] if kind == 14 else -1
+        if size in (4, 12):
+            yield from at_place(message, at + size, NEXT_HOP)
+        yield from prefixes(message, at + 5 + size if kind == 14 else at + 3, end, safi)
+
+
+def update(message: bytes) -> Iterator[Find]:
+    """The addresses in UPDATE: routes that end, attributes, and routes."""
+    at = 21 + int.from_bytes(message[19:21])
+    yield from prefixes(message, 21, at, 1)
+    end = at + 2 + int.from_bytes(message[at : at + 2])
+    at += 2
+    while at + 3 < min(end, len(message)):
+        long = message[at] >> 4 & 1
+        size = int.from_bytes(message[at + 2 : at + 3 + long])
+        yield from attribute(message, message[at + 1], at + 3 + long, min(at + 3 + long + size, len(message)))
+        at += 3 + long + size
+    yield from prefixes(message, end, len(message), 1)
+
+
 def bgp(payload: bytes) -> Iterator[Find]:
-    """The identifier in OPEN; NEXT_HOP in UPDATE (RFC 4271), and in MP_REACH_NLRI of IPv4."""
+    """The identifier in OPEN, and what UPDATE has, message by message."""
     at = 0
     while payload[at : at + 16] == b"\xff" * 16 and len(payload) >= at + 19:
         size, kind = struct.unpack_from(">HB", payload, at + 16)
         if kind == 1:
             yield from at_place(payload, at + 24, ROUTER)
         elif kind == 2:
-            message = payload[at : at + size]
-            for one in re.finditer(rb"[\x40\x50]\x03(?:\x00)?\x04", message[23:]):
-                yield from at_place(payload, at + 23 + one.end(), NEXT_HOP)
-            for one in re.finditer(rb"[\x80\x90]\x0e.{1,2}\x00\x01[\x01\x02\x04]\x04", message[23:], re.DOTALL):
-                yield from at_place(payload, at + 23 + one.end(), NEXT_HOP)
-            for one in re.finditer(rb"[\xc0\x80]\x07(?:\x08....|\x06..)|\x80\x09\x04|\x80\x0a\x04", message[23:], re.DOTALL):
-                yield from at_place(payload, at + 23 + one.end(), ROUTER)
+            with suppress(IndexError):
+                yield from (one._replace(at=one.at + at, end=one.end + at) for one in update(payload[at : at + size]))
         at += max(size, 19)
 
 
@@ -283,9 +324,16 @@ def bitcoin(payload: bytes) -> Iterator[Find]:
 
 
 def hsrp(payload: bytes) -> Iterator[Find]:
-    """The virtual address (RFC 2281)."""
-    if len(payload) >= 20 and payload[0] == 0:
+    """The virtual address, of both versions (RFC 2281)."""
+    if payload[:1] == b"\0" and len(payload) >= 20:
         yield from at_place(payload, 16, VIRTUAL)
+    elif payload[:3] == b"\x01\x28\x02" and payload[5:6] == b"\x04":
+        yield from at_place(payload, 26, VIRTUAL)
+
+
+def lisp(payload: bytes) -> Iterator[Find]:
+    """Hosts and locators of a mapping, each behind its family (RFC 6830)."""
+    return all_behind(payload, re.compile(rb"\0\0\0\x01"), ROUTE)
 
 
 def pcp(payload: bytes) -> Iterator[Find]:
@@ -369,6 +417,7 @@ DECODERS: dict[str, Callable[[bytes], Iterator[Find]]] = {
     "TLS": tls,
     "Bitcoin": bitcoin,
     "HSRP": hsrp,
+    "LISP": lisp,
     "DNS over TLS": tls,
 }
 """What finds addresses in the messages of an application."""
