@@ -50,7 +50,7 @@ class Installed(unittest.TestCase):
         for name in ("rendapil.1", "rendapil.bash"):
             with open(f"{TOP}/packaging/{name}", encoding="utf-8") as file:
                 known = file.read().replace("Fl -", "--")
-            for command in ("check", "explain", "try", "plan", "compare", "export"):
+            for command in ("check", "explain", "try", "fill", "plan", "compare", "export"):
                 options = set(re.findall(r"--[a-z][a-z-]+", said(f"{TOP}/rendapil", command, "--help")[1].partition("usage: ")[2].partition("\n\n")[0]))
                 self.assertEqual({one for one in options if one not in known}, set(), f"{name}: {command}")
 

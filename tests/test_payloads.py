@@ -17,6 +17,7 @@ from rendapil.payloads import scan as scanning
 from rendapil.payloads.addresses import octets_in, stun_in, texts_in, words_at
 from rendapil.payloads.applications import APPLICATIONS, application_of
 from rendapil.payloads.scan import HOST, Meant, Scan, lines_of, meaning_in, told_rows
+from rendapil.payloads.structures import MAPPED
 from rendapil.trying.two_realms import fill
 from test_explain import HAS_JINJA, Happened, write_run
 from test_explain import InRoom as ExplainRoom
@@ -191,6 +192,81 @@ class Evidence(unittest.TestCase):
         self.assertLess(time.monotonic() - began, 10)
 
 
+OWN = bytes([10, 0, 0, 5])
+HTTP_OK = b"HTTP/1.1 302 Found\r\nLocation: http://10.0.0.5/other\r\n\r\n"
+HOST_ADDRESS = b"\x30\x0d\xa0\x03\x02\x01\x02\xa1\x06\x04\x04" + OWN
+BGP_HEAD = b"\xff" * 16
+SMB_HEAD = b"\0\0\0\xc8\xfeSMB" + bytes(8) + b"\x0b\0" + bytes(54)
+
+
+class Fields(unittest.TestCase):
+    """What an address means goes by its field."""
+
+    def told(self, protocol: int, port: int, far_port: int, payload: bytes) -> list[tuple[str, str]]:
+        """The applications and weights of a payload of 10.0.0.5."""
+        return [(row.application.partition(", TCP")[0].partition(", UDP")[0], row.weight) for row in told_rows(scan_of(("10.0.0.5", port, far_port, payload), protocol=protocol))]
+
+    def test_weights(self) -> None:
+        """What receivers follow breaks; what they only read is told."""
+        for protocol, port, far_port, payload, expected in (
+            (TCP, 80, 4000, HTTP_OK, [("HTTP", "breaks")]),
+            (TCP, 4000, 80, b"GET / HTTP/1.1\r\nHost: x\r\nX-Forwarded-For: 10.0.0.5\r\n\r\n", [("HTTP", "tells")]),
+            (TCP, 4000, 3128, b"CONNECT 10.0.0.6:443 HTTP/1.1\r\n\r\n", [("HTTP", "breaks")]),
+            (TCP, 80, 4000, b"HTTP/1.1 200 OK\r\n\r\n<a href='http://10.0.0.6/'>", [("HTTP", "breaks")]),
+            (TCP, 4000, 5000, b"POST / HTTP/1.1\r\n\r\n<u:AddPortMapping xmlns:u='urn:schemas-upnp-org:x'><NewInternalClient>10.0.0.5</", [("SSDP, UPnP", "breaks")]),
+            (TCP, 4000, 5000, b"SUBSCRIBE /e HTTP/1.1\r\nCALLBACK: <http://10.0.0.5:9/>\r\n\r\n", [("SSDP, UPnP", "breaks")]),
+            (TCP, 389, 4000, b"\x30\x40\x02\x01\x02\x65\x00 ldap://10.0.0.6/dc=a", [("LDAP", "breaks")]),
+            (TCP, 389, 4000, b"\x30\x40\x02\x01\x02\x64\x00 ipHostNumber 10.0.0.6", [("LDAP", "tells")]),
+            (UDP, 5060, 5060, b"OPTIONS sip:a SIP/2.0\r\nVia: SIP/2.0/UDP 10.0.0.5;branch=1;rport\r\n", [("SIP", "tells")]),
+            (UDP, 5060, 5060, b"SIP/2.0 302 Moved\r\nContact: <sip:a@10.0.0.6>\r\n", [("SIP", "breaks")]),
+            (TCP, 4000, 6667, b"PRIVMSG a :\x01DCC SEND f 167772165 4000 9\x01\r\n", [("IRC", "breaks")]),
+            (TCP, 6667, 4000, b":a!b@10.0.0.6 JOIN #c\r\n:x NOTICE y :z\r\n", [("IRC", "tells")]),
+            (TCP, 4000, 6667, b"NOTICE a :from 10.0.0.5\r\n", [("IRC", "tells")]),
+            (TCP, 4000, 6667, b"USER ann\r\n", []),
+            (TCP, 4000, 2121, b"PORT 10,0,0,5,4,1\r\n", [("FTP on another port than 21", "breaks")]),
+            (TCP, 2121, 4000, b"220 FTP of 10.0.0.5\r\n", [("FTP on another port than 21", "tells")]),
+            (TCP, 6379, 4000, b"-MOVED 7 10.0.0.6:6379\r\n", [("Redis", "breaks")]),
+            (TCP, 6379, 4000, b"$20\r\nid=1 addr=10.0.0.6:4\r\n", [("Redis", "tells")]),
+            (TCP, 4000, 6379, b"*3\r\n$9\r\nREPLICAOF\r\n$8\r\n10.0.0.5\r\n$4\r\n6379\r\n", [("Redis", "breaks")]),
+            (TCP, 3260, 4000, bytes(48) + b"TargetName=a\0TargetAddress=10.0.0.5:3260,1\0", [("iSCSI", "breaks")]),
+            (TCP, 1521, 4000, b"\0\x50\0\0\x05\0\0\0\0\x40(ADDRESS=(PROTOCOL=tcp)(HOST=10.0.0.6)(PORT=1))", [("Oracle", "breaks")]),
+            (TCP, 4000, 1521, b"\0\x50\0\0\x01\0\0\0" + bytes(50) + b"(DESCRIPTION=(ADDRESS=(HOST=10.0.0.6)", [("Oracle", "tells")]),
+            (UDP, 4000, 88, b"\x6a\x50" + HOST_ADDRESS, [("Kerberos", "breaks")]),
+            (UDP, 4000, 177, b"\0\1\0\7\0\x10\0\0\1\0\0\1\0\4" + OWN + bytes(5), [("XDMCP", "breaks")]),
+            (TCP, 4000, 6000, b"\x6d\0\3\0\0\0\4\0" + OWN, [("X11", "breaks")]),
+            (TCP, 6969, 4000, b"HTTP/1.1 200 OK\r\n\r\nd8:intervali9e5:peers6:" + OWN + b"\x1a\xe1e", [("BitTorrent", "breaks")]),
+            (UDP, 6969, 4000, struct.pack(">5I", 1, 7, 9, 0, 1) + OWN + b"\x1a\xe1", [("BitTorrent", "breaks")]),
+            (TCP, 4000, 179, BGP_HEAD + b"\0\x1d\1\4\0\1\0\x5a" + OWN + b"\0", [("BGP", "tells")]),
+            (TCP, 4000, 179, BGP_HEAD + b"\0\x25\2\0\0\0\x0e\x40\1\1\0\x40\2\0\x40\3\4" + OWN, [("BGP", "breaks")]),
+            (TCP, 4000, 1080, b"\5\1\0\1" + OWN + b"\0\x50", [("SOCKS", "breaks")]),
+            (TCP, 4000, 1080, b"\5\1\0\1\x0a\x09\x09\x09\0\x50", [("SOCKS", "tells")]),
+            (UDP, 4000, 5351, b"\2\1" + bytes(16) + b"\xff\xff" + OWN + bytes(12), [("PCP, NAT-PMP", "breaks")]),
+            (TCP, 445, 4000, SMB_HEAD + b"\x94\1\6\0" + bytes(40) + "\\10.0.0.6\\s".encode("utf-16-le"), [("SMB", "breaks")]),
+            (TCP, 445, 4000, SMB_HEAD + bytes(44) + "\\10.0.0.5\\s".encode("utf-16-le"), [("SMB", "tells")]),
+            (UDP, 9999, 4000, bytes(12) + MAPPED + OWN, [("", "unsure")]),
+        ):
+            found = [(("" if name.startswith(("TCP", "UDP")) else name), weight) for name, weight in self.told(protocol, port, far_port, payload) if weight != "hidden"]
+            self.assertEqual((payload[:60], found), (payload[:60], expected))
+
+    def test_redirects(self) -> None:
+        """What is made of Host would have the alias, and works; so does what the proxy's own realm has."""
+        table = Bindings(tomllib.loads(RIGHT + STATICS), lambda _: None)
+        for target, location, weight in ((b"/d", b"/d/", "tells"), (b"/d", b"/e", "breaks")):
+            scan = Scan(meaning_in(table))
+            ends, back = ("10.0.0.7", 4000, "192.168.200.9", 80), ("10.0.0.9", 80, "172.16.9.7", 4000)
+            scan.take(1, 0, tcp(*ends, 24, 1, 1, b"GET " + target + b" HTTP/1.1\r\nHost: 10.0.0.9\r\n\r\n"), [tcp("172.16.9.7", 4000, "10.0.0.9", 80, 24, 1, 1, b"")])
+            answer = b"HTTP/1.1 301 Moved\r\nLocation: http://10.0.0.9" + location + b"\r\n\r\n"
+            scan.take(2, 1, tcp(*back, 24, 1, 1, answer), [tcp("192.168.200.9", 80, "10.0.0.7", 4000, 24, 1, 1, answer)])
+            self.assertEqual([row.weight for row in told_rows(scan)], [weight])
+
+    def test_known_to_the_reader(self) -> None:
+        """What the reader itself calls a host of the sender's realm is right there, and isn't told."""
+        scan = Scan(meaning_in(Bindings(tomllib.loads(RIGHT + STATICS), lambda _: None)))
+        answer = b"HTTP/1.1 301 Moved\r\nLocation: http://192.168.200.9/x\r\n\r\n"
+        scan.take(1, 1, tcp("10.0.0.9", 80, "172.16.9.7", 4000, 24, 1, 1, answer), [tcp("192.168.200.9", 80, "10.0.0.7", 4000, 24, 1, 1, answer)])
+        self.assertEqual([row for row in told_rows(scan) if row.weight != "hidden"], [])
+
+
 class Told(ExplainRoom):
     """Where it is told."""
 
@@ -212,6 +288,16 @@ class Told(ExplainRoom):
             with open(f"{self.room}/page", encoding="utf-8") as file:
                 page = file.read()
             self.assertTrue("&lt;script&gt;alert(1)&lt;/script&gt; 10.0.0.5" in page and "<script>alert" not in page)
+
+    def test_frame_by_frame(self) -> None:
+        """In lines of JSON, and in the comments of a capture."""
+        files = self.run_files()
+        events = [json.loads(line) for line in said(*EXPLAIN, "--events", *files)[1].splitlines()]
+        self.assertEqual([one["payload"][0]["weight"] for one in events], ["breaks"] * 3)
+        self.assertEqual({one["payload"][0]["address"] for one in events}, {"10.0.0.5"})
+        self.assertEqual(said(*EXPLAIN, "--pcapng", f"{self.room}/all", *files)[0], 0)
+        with open(f"{self.room}/all", "rb") as file:
+            self.assertEqual(file.read().count(b"\n! SIP, UDP port 5060: "), 3)
 
     def test_check(self) -> None:
         """`check` names the application, where frames are good otherwise."""

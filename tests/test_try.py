@@ -147,7 +147,7 @@ class Try(InRoom):
         for name in ("pcapng", "two tags"):
             status, text = self.tried(f"{self.room}/{name}", "--left", "10.1.0.0/16")
             self.assertEqual((status, self.counts(text)), (0, {"pass": 7}), text)
-            for line in ("7 frames cross the gateway, 4 of the left realm and 3 of the right one.", "1  frames with a checksum that was mended", "1  lines of FTP that the"):
+            for line in ("7 frames go to the gateway, 4 of the left realm and 3 of the right one.", "7 of 7 frames that go to the gateway pass.", "1  frame with a checksum that was mended", "1  line of FTP that the"):
                 self.assertIn(line, text)
             with open(f"{self.room}/out/left.pcap", "rb") as left, open(f"{self.room}/out/right.pcap", "rb") as right:
                 self.assertEqual(lines[0], f"4 3 1 1 {hashlib.sha256(left.read() + right.read()).hexdigest()}")
@@ -156,15 +156,16 @@ class Try(InRoom):
     def test_what_to_type(self) -> None:
         """Without --left it lists who speaks with whom, and proposes a command that works, within one block of addresses too."""
         name = self.write("a capture's", capture(login()))
-        status, text = said(*TRY, name)
+        status, text = said(*TRY, name, "--program", PROGRAM)
         self.assertEqual((status, text.splitlines()[1]), (0, "       7  10.1.0.0/24 and 10.2.0.0/24"))
-        self.assertIn("With these, 7 of 7 frames cross", text)
-        command = text.splitlines()[-1].replace("rendapil try", f"{TOP}/rendapil try --out {self.room}/out --program {PROGRAM}")
+        self.assertIn("7 of 7 frames go to the gateway, and 7 of these pass", text)
+        self.assertIn("With these, 7 of 7 frames go to the gateway", text)
+        command = f"{text.splitlines()[-1]} --out {self.room}/out --program {PROGRAM}"
         self.assertIn("7  pass", said("bash", "-c", command)[1])
         near = [udp(f"10.1.0.{host}", 4000 + host, "10.1.0.1", 53 + host, b"x") for host in range(2, 9) for _ in range(3)]
         text = said(*TRY, self.write("near", capture(near)))[1]
         self.assertIn("3  10.1.0.1 and 10.1.0.8", text)
-        self.assertIn("With these, 21 of 21 frames cross", text)
+        self.assertIn("With these, 21 of 21 frames go to the gateway", text)
 
     def test_through_a_pipe(self) -> None:
         """A capture may come from standard input."""
@@ -180,10 +181,10 @@ class Try(InRoom):
         self.assertEqual((status, self.counts(text)), (0, {"pass": 5, "BadSum": 1, "AckAhead": 1}))
         for line in (
             "2  frames left out: between two hosts of the left realm",
-            "1  frames left out: between two hosts of the right realm",
-            "1  frames left out: between two hosts of same blocks",
-            "1  frames left out: not between two hosts (broadcast, multicast)",
-            "1  frames left out: no IPv4 (ARP, IPv6), or cut before its end",
+            "1  frame left out: between two hosts of the right realm",
+            "1  frame left out: between two hosts that mean the same in both realms",
+            "1  frame left out: not between two hosts (broadcast, multicast)",
+            "1  frame left out: IPv6",
             "1  BadSum: the ICMP, TCP or UDP checksum is wrong. What to do: turn off checksum offload",
         ):
             self.assertIn(line, text)
@@ -197,7 +198,7 @@ class Try(InRoom):
         name = self.write("capture", capture([*fragments(left, 48), *fragments(whole, 48)]))
         status, text = self.tried(name, "--left", "10.1.0.0/16")
         self.assertEqual((status, self.counts(text)), (0, {"held": 4, "pass": 2}), text)
-        self.assertIn("1  frames with a checksum that was mended", text)
+        self.assertIn("1  frame with a checksum that was mended", text)
 
     def test_limits_are_told(self) -> None:
         """Where the gateway makes answers over TCP longer it says why frames are refused, and the command that it gives helps."""
@@ -211,12 +212,13 @@ class Try(InRoom):
             frames += [tcp(*ends, 24, ask, answer, one), tcp(*back, 24, answer, ask + len(one), other), tcp(*ends, 16, ask + len(one), answer + len(other))]
             ask, answer = ask + len(one), answer + len(other)
         name = self.write("capture", capture(frames))
-        status, text = self.tried(name, "--left", "10.1.0.0/16")
+        self.assertEqual(self.counts(self.tried(name, "--left", "10.1.0.0/16")[1]), {"pass": len(frames)})
+        status, text = self.tried(name, "--left", "10.1.0.0/16", "--public")
         self.assertGreater(self.counts(text).get("Gap", 0) + self.counts(text).get("AckAhead", 0), 2)
         self.assertIn("The hosts of a capture don't answer anew", text)
-        command = next(line for line in text.splitlines() if line.startswith("  rendapil try"))
+        command = next(line for line in text.splitlines() if line.startswith(f"  {TRY[0]} try"))
         self.assertIn("--same 216.158.211.140/30", command)
-        self.assertEqual(self.counts(self.tried(*command.split()[2:])[1]), {"pass": len(frames)})
+        self.assertEqual(self.counts(self.tried(*command.split()[2:], "--public")[1]), {"pass": len(frames)})
 
     def test_pool(self) -> None:
         """Without statics hosts get aliases as they speak, what is said to them finds them, and a pool that is too small ends."""
@@ -234,10 +236,77 @@ class Try(InRoom):
         status, text = self.tried(name, "--left", "10.1.0.0/16", "--pool", "20")
         self.assertEqual((status, self.counts(text)), (0, {"pass": 100, "PoolEmpty": 27, "NoBinding": 18}), text)
         self.assertIn("27 frames found their pool full: give a larger one by --pool", text)
-        status, text = self.tried(name, "--left", "10.2.0.9/32", "--pool", "0")
-        self.assertEqual((status, self.counts(text)), (0, {"pass": len(frames)}))
+        self.assertIn("right pool, for hosts of the left realm: 0 statics, 29 by use at the busiest moment", text)
+        self.assertEqual(self.tried(name, "--left", "10.2.0.9/32", "--pool", "0")[0], 2)
         twice = self.write("twice", capture([udp("10.2.0.9", 1, f"10.1.0.{host}", 2, b"x") for host in range(9)]))
         self.assertIn("--pool has to be 9 at least", self.tried(twice, "--left", "10.1.0.0/16", "--pool", "5")[1])
+
+    def test_lost_fragments(self) -> None:
+        """Fragments whose packet never went out are lost, and aren't told as passed."""
+        whole = udp("10.1.0.5", 4000, "10.2.0.9", 4001, bytes(100))
+        name = self.write("capture", capture([*fragments(whole, 48), *list(fragments(udp("10.1.0.6", 4000, "10.2.0.9", 4001, bytes(100)), 48))[:1]]))
+        text = self.tried(name, "--left", "10.1.0.0/16")[1]
+        for line in ("1 of 4 frames that go to the gateway passes, and 2 went out as parts of these.", "2  held: fragments that waited", "1  lost: fragments that were held, whose packet never went out"):
+            self.assertIn(line, text)
+
+    def test_kinds_of_frames(self) -> None:
+        """ARP, IPv6 and IPv4 that is cut within its header are rows of their own, and loopback alone is told."""
+        good = [udp("10.1.0.5", 1, "10.2.0.9", 2, b"x"), udp("10.2.0.9", 2, "10.1.0.5", 1, b"x")]
+        others = [MACS + b"\x08\x06" + bytes(28), MACS + b"\x86\xdd\x60" + bytes(39), MACS + b"\x08\0" + good[0][:12]]
+        name = self.write("capture", pcap(1, [MACS + b"\x08\0" + one for one in good] + others))
+        for text in (said(*TRY, name)[1], self.tried(name, "--left", "10.1.0.0/16")[1]):
+            for line in ("ARP", "IPv6", "IPv4 that is cut within its header, or damaged"):
+                self.assertRegex(text, rf"(?m)^ +1  (?:frame left out: )?{line}")
+        loop = self.write("loop", capture([udp("127.0.0.1", 1, "127.0.0.1", 2, b"x")]))
+        self.assertIn("has loopback addresses alone (127.0.0.1)", said(*TRY, loop)[1])
+
+    def test_oddities(self) -> None:
+        """Frames that are there twice, connections of one direction, and tunnels."""
+        frames = [udp("10.1.0.5", 1, "10.2.0.9", 2, bytes([one]) * 30) for one in range(20)]
+        marked = [one[:4] + bytes([1, number]) + one[6:] for number, one in enumerate(frames)]
+        hops = [one[:8] + bytes([one[8] - 1]) + one[9:] for one in marked]
+        text = said(*TRY, self.write("twice", capture([one for pair in zip(marked, hops) for one in pair])))[1]
+        self.assertIn("20 frames are there twice, as a router sees them", text)
+        one_way = [tcp("10.1.0.5", 4000 + one, "10.2.0.9", 21, 24, 1, 1, b"NOOP\r\n") for one in range(9)]
+        text = self.tried(self.write("one way", capture(one_way)), "--left", "10.1.0.0/16")[1]
+        self.assertIn("Most connections of TCP have one direction alone", text)
+        self.assertIn("9 frames are NoSession: the capture has one direction of these connections alone", text)
+        tunnel = [udp("10.1.0.5", 9, "10.2.0.9", 4789, bytes(60))] * 3 + [frames[0][:9] + b"\x2f" + frames[0][10:20] + b"\0\0\x88\xbe" + bytes(40)]
+        text = said(*TRY, self.write("tunnel", capture(tunnel)))[1]
+        for line in ("3 frames are of a tunnel, VXLAN", "1 frame is of a tunnel, ERSPAN in GRE"):
+            self.assertIn(line, text)
+
+    def test_never_more(self) -> None:
+        """It doesn't say that more frames pass than the report says, in either step; and refused protocols are told as what breaks."""
+        esp = [one[:9] + b"\x32" + one[10:] for one in (udp("10.1.0.5", 1, "10.2.0.9", 2, bytes(30)),) * 4]
+        name = self.write("capture", capture([*login(), *esp]))
+        self.assertIn("11 of 11 frames go to the gateway, and 7 of these pass", said(*TRY, name, "--program", PROGRAM)[1])
+        text = self.tried(name, "--left", "10.1.0.0/16")[1]
+        self.assertIn("7 of 11 frames that go to the gateway pass.", text)
+        self.assertIn("ESP of IPsec, IP protocol 50: sure, the gateway refuses it", text)
+
+    def test_names(self) -> None:
+        """DNS answers that the gateway changes are counted and named; public addresses aren't changed."""
+        def answer(address: str) -> bytes:
+            name = b"\x01w\x04corp\x04test\0"
+            return struct.pack(">6H", 7, 0x8180, 1, 1, 0, 0) + name + struct.pack(">HH", 1, 1) + b"\xc0\x0c" + struct.pack(">HHIH", 1, 1, 60, 4) + bytes(map(int, address.split(".")))
+        ends = ("10.2.0.53", 53, "10.1.0.5", 4000)
+        frames = [udp("10.1.0.5", 4000, "10.2.0.53", 53, answer("10.2.0.9")[:2] + b"\1\0\0\1" + bytes(6) + b"\x01w\x04corp\x04test\0\0\1\0\1"), udp(*ends, answer("10.2.0.9"))]
+        text = self.tried(self.write("capture", capture(frames)), "--left", "10.1.0.0/16")[1]
+        self.assertIn("DNS answers that the gateway changed: 1\n       1  corp.test: w.corp.test 10.2.0.9 became 192.168.200.", text)
+        text = self.tried(self.write("public", capture([frames[0], udp(*ends, answer("8.8.8.8"))])), "--left", "10.1.0.0/16")[1]
+        self.assertNotIn("DNS answers", text)
+
+    def test_fill(self) -> None:
+        """`fill` gives `run` whole frames, and says what it can't fill."""
+        frames = [tcp("10.1.0.5", 4000, "10.2.0.9", 80, 24, 1, 1, bytes(200)), udp("10.1.0.5", 53, "10.2.0.9", 5000, bytes(200)), udp("10.1.0.5", 1, "10.2.0.9", 2, b"x")]
+        head = struct.pack("<IHHiIII", 0xA1B2C3D4, 2, 4, 0, 0, 96, 101)
+        name = self.write("cut", head + b"".join(struct.pack("<IIII", second, 0, len(one[:96]), len(one)) + one[:96] for second, one in enumerate(frames, 1)))
+        status, text = said(f"{TOP}/rendapil", "fill", name, f"{self.room}/new")
+        self.assertEqual((status, re.findall(r"(?m)^ +(\d) +frame (\w+)", text)), (0, [("1", "filled"), ("1", "cut"), ("1", "whole")]), text)
+        kept = list(records(f"{self.room}/new"))
+        self.assertEqual([(len(one.octets), one.length) for one in kept], [(240, 240), (96, 228), (29, 29)])
+        self.assertEqual(said(f"{TOP}/rendapil", "fill", name, name)[0], 1)
 
     def test_the_capture_stays(self) -> None:
         """It isn't written over."""
@@ -258,7 +327,8 @@ class Try(InRoom):
             (pcap(101, []), "has no IPv4 between two hosts"),
             (gzip.compress(whole)[:10] + b"\xff" * 40, "is no capture that can be read: it is damaged: Error -3 while decompressing data"),
             (pcap(101, [udp("10.1.0.5", 1, "10.1.0.5", 2, b"x")]), "has frames of one host alone"),
-            (b"\x28\xb5\x2f\xfd" + bytes(40), "is no capture that can be read: Not a supported capture file"),
+            (b"\x28\xb5\x2f\xfd" + bytes(40), "is packed by zstd. Unpack it: zstd -dc"),
+            (b"\xfd7zXZ\0" + bytes(40), "is packed by xz. Unpack it: xz -dc"),
         ):
             name = self.write("a\x1b[2J", octets)
             status, text = said(*TRY, name)

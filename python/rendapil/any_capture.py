@@ -1,15 +1,17 @@
 """The datagrams of any capture that python3-scapy reads: pcap or pcapng, packed by gzip or not, of any mix of links."""
-import heapq
 import logging
 import struct
 import sys
 import zlib
+from bisect import bisect_right
+from collections import deque
 from collections.abc import Iterator
 from contextlib import closing
 from functools import lru_cache
-from typing import Any, NamedTuple
+from typing import Any, BinaryIO, NamedTuple
 
 from rendapil.bindings import TCP
+from rendapil.files import FORMS
 
 IPV4 = b"\x08\x00"
 TAGS = (b"\x81\x00", b"\x88\xa8", b"\x91\x00")
@@ -44,21 +46,34 @@ class Record(NamedTuple):
 
 def records(path: str) -> Iterator[Record]:
     """The frames of a capture, by their stamps: where it has several interfaces they may be a little out of order. Where time begins anew, so does this."""
-    waiting: list[tuple[int, int, Record]] = []
-    given = 0
-    for number, record in enumerate(read(path)):
-        if record.moment < given:
-            yield from (one for *_, one in sorted(waiting))
-            waiting.clear()
-        heapq.heappush(waiting, (record.moment, number, record))
+    waiting: deque[Record] = deque()
+    given = latest = 0
+    for record in read(path):
+        moment = record.moment
+        if moment >= latest:
+            latest = moment
+            waiting.append(record)
+        else:
+            if moment < given:
+                yield from waiting
+                waiting.clear()
+                latest = moment
+            place = bisect_right(waiting, moment, key=lambda one: one.moment)
+            waiting.insert(place, record)
         if len(waiting) > WINDOW:
-            given, _, first = heapq.heappop(waiting)
+            first = waiting.popleft()
+            given = first.moment
             yield first
-    yield from (one for *_, one in sorted(waiting))
+    yield from waiting
 
 
 def read(path: str) -> Iterator[Record]:
     """The frames of a capture. A stamp that is none is that of the frame before."""
+    with open(path, "rb", 1 << 18) as file:
+        head = file.read(24)
+        if len(head) == 24 and head[:4] in FORMS:
+            yield from of_pcap(file, *FORMS[head[:4]], head)
+            return
     logging.getLogger("scapy").setLevel(logging.CRITICAL)  # what it says of a file has bytes of that file
     from scapy.utils import RawPcapReader
 
@@ -77,6 +92,21 @@ def read(path: str) -> Iterator[Record]:
                 stamp, link = ((about.tshigh << 32) + about.tslow) * 10**9 // about.tsresol if about.tshigh is not None else moment, about.linktype
             moment = stamp if stamp < MOMENTS else moment
             yield Record(moment, link, octets, about.wirelen)
+
+
+def of_pcap(file: BinaryIO, order: str, unit: int, head: bytes) -> Iterator[Record]:
+    """The frames of a pcap file: most captures are one, and this is ten times as quick as scapy."""
+    link = struct.unpack(order + "I", head[20:24])[0] & 0xFFFF
+    record, moment, number = struct.Struct(order + "IIII"), 0, 0
+    while len(begin := file.read(16)) == 16:
+        seconds, fraction, size, length = record.unpack(begin)
+        if size > MOST:
+            tell_damage(number)
+            return
+        stamp = seconds * 10**9 + fraction * unit
+        moment = stamp if stamp < MOMENTS else moment
+        number += 1
+        yield Record(moment, link, file.read(size), length)
 
 
 class Bounded:
@@ -151,6 +181,23 @@ def datagram_in(link: int, octets: bytes) -> bytes:
         return found_by_scapy(link, octets)
     found = octets[at:]
     return found if len(found) >= 20 and found[0] >> 4 == 4 and found[0] & 15 >= 5 else b""
+
+
+def why_none(frame: Record) -> str:
+    """Why a frame has no datagram: three reasons that a user wants apart, and others."""
+    octets, at = frame.octets, 12
+    if frame.link == 1:
+        while octets[at : at + 2] in TAGS:
+            at += 4
+        kind = octets[at : at + 2]
+    elif frame.link in (SLL, SLL2):
+        kind = octets[14:16] if frame.link == SLL else octets[:2]
+    else:
+        first = octets[:1] if frame.link in RAW else octets[4:5]
+        kind = IPV4 if first[:1] and first[0] >> 4 == 4 else b"\x86\xdd" if first[:1] and first[0] >> 4 == 6 else b""
+    if kind == IPV4:
+        return "IPv4 that is cut within its header, or damaged"
+    return {b"\x86\xdd": "IPv6", b"\x08\x06": "ARP"}.get(kind, "no IPv4")
 
 
 def with_length(datagram: bytes) -> bytes:

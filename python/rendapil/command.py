@@ -39,6 +39,7 @@ HELP = f"""usage: rendapil [--quiet] [--untag] COMMAND WORDS
   explain [OPTIONS] {WORDS_OF_RUN}
                                                   who had which address, and why frames were refused
   try CAPTURE [--left BLOCK.. [OPTIONS]]          makes two realms of one ordinary capture, and shows what happens
+  fill CAPTURE NEW                                fills up frames that a capture has cut, so that run takes them
   plan LEFT RIGHT [OPTIONS]                       two networks before a merger: what overlaps, which settings they need, and what will break
   compare SETTINGS CAPTURE.. [OPTIONS]            says what a real device does otherwise, by its captures
   export KIND SETTINGS [OPTIONS]                  writes the rules for a Linux gateway: nftables, iproute2
@@ -77,6 +78,7 @@ TOOLS = {
     "check": "rendapil.check.settings",
     "explain": "rendapil.explain.command",
     "try": "rendapil.trying.command",
+    "fill": "rendapil.filling.command",
     "plan": "rendapil.planning.command",
     "compare": "rendapil.comparing.command",
     "export": "rendapil.exporting.command",

@@ -58,6 +58,7 @@ def time_of(moment: int) -> str:
     return f"{second_of(seconds)}.{fraction:09d}Z"
 
 
+@lru_cache(maxsize=8192)
 def address_of(octets: bytes) -> str:
     """An address. ValueError where there are other than four octets."""
     one, two, three, four = octets
@@ -126,9 +127,14 @@ def dns_lines(message: bytes) -> list[str]:
         return [f"a DNS message of {len(message)} bytes"]
 
 
+SPOKEN = (FTP_PORT.to_bytes(2), DNS_PORT.to_bytes(2))
+"""Ports whose payloads are told in words."""
+
+
 def spoken(datagram: bytes) -> list[str]:
     """What a datagram says in words, if it is of an FTP control connection or of DNS over UDP."""
-    if int.from_bytes(datagram[6:8]) & 0x3FFF:
+    head = (datagram[0] & 15) * 4
+    if not (datagram[head : head + 2] in SPOKEN or datagram[head + 2 : head + 4] in SPOKEN) or int.from_bytes(datagram[6:8]) & 0x3FFF:
         return []
     try:
         if datagram[9] == TCP:
@@ -164,11 +170,21 @@ class Verdict(NamedTuple):
     group: str
     means: str
     todo: str
+    links: tuple[tuple[str, str], ...] = ()
 
 
 def words_of(markdown: str) -> str:
     """Text without links and marks."""
     return re.sub(r"\[([^]]*)\]\([^)]*\)", r"\1", markdown).replace("`", "").replace("**", "").strip()
+
+
+def parts_of(markdown: str) -> tuple[tuple[str, str], ...]:
+    """Text in parts, each with the link that it has, or nothing."""
+    parts = re.split(r"\[([^]]*)\]\(([^)]*)\)", markdown)
+    texts = [part.replace("`", "").replace("**", "") for part in parts]
+    found = [(texts[at], "") for at in range(0, len(texts), 3)]
+    links = [(texts[at], parts[at + 1]) for at in range(1, len(texts), 3)]
+    return tuple(one for pair in zip(found, [*links, ("", "")]) for one in pair if one[0])
 
 
 def verdicts_of() -> dict[str, Verdict]:
@@ -179,7 +195,7 @@ def verdicts_of() -> dict[str, Verdict]:
             if line.startswith("### "):
                 group = line[4:].strip()
             elif row := re.match(r"\| `(\w+)` \| \d+ \| (.*) \| (.*) \|$", line):
-                found[row[1]] = Verdict(group, words_of(row[2]), words_of(row[3]))
+                found[row[1]] = Verdict(group, words_of(row[2]), words_of(row[3]), parts_of(row[3]))
     return found
 
 

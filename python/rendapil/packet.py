@@ -30,9 +30,10 @@ def header_sum(head: bytes) -> int:
     return ~total_of(head[:10] + bytes(2) + head[12:]) & 0xFFFF
 
 
-def adjusted(old_sum: int, old: bytes, new: bytes) -> int:
-    """A checksum after a change (RFC 1624): a wrong one stays as wrong as it was."""
-    return ~total_of(struct.pack(">HHH", ~old_sum & 0xFFFF, ~total_of(old) & 0xFFFF, total_of(new))) & 0xFFFF
+def adjusted(old_sum: int, old: int, new: int) -> int:
+    """A checksum after a change, by the sums of what was there and is there now (RFC 1624): a wrong one stays as wrong as it was."""
+    total = 0x1FFFE - old_sum - old + new
+    return 0xFFFF - (total % 0xFFFF or (0xFFFF if total else 0))
 
 
 class Packet:
@@ -77,14 +78,15 @@ class Packet:
 
     def put(self, at: int, new: bytes) -> None:
         """Writes octets at an even place, and adjusts the sums that count them."""
-        old = bytes(self.octets[at : at + len(new)])
-        self.octets[at : at + len(new)] = new
+        octets = self.octets
+        old, total = total_of(octets[at : at + len(new)]), total_of(new)
+        octets[at : at + len(new)] = new
         if at < self.head:
-            self.octets[10:12] = adjusted(self.number(10), old, new).to_bytes(2)
+            octets[10:12] = adjusted(octets[10] << 8 | octets[11], old, total).to_bytes(2)
         place = self._sum_place()
         if place is not None and (at >= self.head or self.protocol != ICMP):
-            fixed = adjusted(self.number(place), old, new)
-            self.octets[place : place + 2] = (fixed or (0xFFFF if self.protocol == UDP else 0)).to_bytes(2)
+            fixed = adjusted(octets[place] << 8 | octets[place + 1], old, total)
+            octets[place : place + 2] = (fixed or (0xFFFF if self.protocol == UDP else 0)).to_bytes(2)
 
     def mend(self) -> bool:
         """Computes the sums of a whole datagram anew, as a sender without offloading would. Where only its first fragment is there, and the

@@ -1,5 +1,6 @@
 """What the command says on standard error."""
 import os
+import shlex
 import sys
 
 ESCAPES = {7: "\\a", 8: "\\b", 9: "\\t", 10: "\\n", 11: "\\v", 12: "\\f", 13: "\\r", 27: "\\E", 39: "\\'", 92: "\\\\"}
@@ -17,6 +18,16 @@ def shown(text: str) -> str:
         return text
     octets = os.fsencode(text)
     return "$'" + "".join(ESCAPES.get(one) or (chr(one) if 32 <= one < 127 else f"\\{one:03o}") for one in octets) + "'"
+
+
+def quoted(text: str) -> str:
+    """A word as a shell takes it."""
+    return shlex.quote(text) if text.isprintable() else shown(text)
+
+
+def called() -> str:
+    """The command as the user called it. The script at the top says that; whoever calls the package itself didn't."""
+    return quoted(os.environ.get("RENDAPIL_CALLED") or "rendapil")
 
 
 def say(text: str) -> None:

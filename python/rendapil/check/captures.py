@@ -18,7 +18,8 @@ from rendapil.files import ETHERNET, FORMS, RECORD, shown
 from rendapil.kinds import by_head
 from rendapil.packet import SUM_AT, Packet, is_host, is_private
 from rendapil.payloads.applications import BREAKS
-from rendapil.payloads.scan import ALIAS, HOST, MAYBE, PRIVATE, Meaning, Meant, Scan, example_of
+from rendapil.payloads.kept import ALIAS, HOST, MAYBE, PRIVATE, Meaning, Meant
+from rendapil.payloads.scan import Scan, example_of
 
 if TYPE_CHECKING:
     from rendapil.check.settings import Realms
@@ -190,7 +191,7 @@ def told(paths: list[str], realms: "Realms", most: int = LOOKED_AT) -> Iterator[
 def told_of_payloads(path: str, scan: Scan) -> Iterator[str]:
     """A line for each application that will break since its payloads carry addresses."""
     for row in scan.rows():
-        if row.app.of.weight == BREAKS and row.sure != MAYBE:
+        if row.weight == BREAKS and row.sure != MAYBE:
             yield f"{shown(path)}: payloads of {row.app.name} carry addresses that the gateway leaves alone: {example_of(row.sites[0], True)}. What helps: {row.app.of.todo}"
 
 

@@ -24,6 +24,7 @@ from rendapil.sayings import Fault
 from rendapil.settings_text import statics
 
 if TYPE_CHECKING:
+    from rendapil.explain.changes import Changes, Named
     from rendapil.payloads.scan import Scan
 
 SHOWN, SHOWN_BINDINGS = 20, 1000
@@ -94,10 +95,13 @@ def tell_refusals(story: Story) -> None:
         print(f"and {len(rows) - len(shown_rows)} rows more: --json gives all")
 
 
-def tell_payloads(scan: "Scan") -> None:
-    """Which applications have addresses in their payloads that the gateway leaves alone."""
+def tell_payloads(scan: "Scan", changes: "Changes | None" = None) -> None:
+    """Which DNS answers were changed, where that is asked for, and which applications have addresses in their payloads that the gateway leaves alone."""
+    from rendapil.explain.changes import lines_of as lines_of_changes
     from rendapil.payloads.scan import lines_of
 
+    if changes and (changed := list(lines_of_changes(changes))):
+        print(*changed, sep="\n", end="\n\n")
     print(*lines_of(scan), sep="\n")
 
 
@@ -141,7 +145,13 @@ def refused_row(verdict: str, side: str, host: str, row: Row) -> dict[str, objec
     return {**whole, **times(row, "first", "last"), "for": to, "for_others": row.count - sum(to.values())}
 
 
-def tell_json(story: Story, scan: "Scan") -> None:
+def zone_row(zone: str, answers: int, names: "list[Named]") -> dict[str, object]:
+    """A zone whose answers were changed as JSON."""
+    rows = [{"name": one.name, "came": str(IPv4Address(one.came)), "sent": str(IPv4Address(one.went)), "for": SIDES[one.side]} for one in names]
+    return {"zone": zone, "answers": answers, "names": rows}
+
+
+def tell_json(story: Story, scan: "Scan", changes: "Changes") -> None:
     """All of it as one JSON object, a row a line, its moments in nanoseconds since 1970."""
     from rendapil.payloads.scan import told_rows
 
@@ -155,12 +165,20 @@ def tell_json(story: Story, scan: "Scan") -> None:
         }
         for side, pool in zip(SIDES, story.table.pools)
     }
-    whole = {"first": story.first, "last": story.last, **times(story, "first", "last"), "end": story.end, "heartbeats": story.heartbeats}
+    whole = {
+        "first": story.first,
+        "last": story.last,
+        **times(story, "first", "last"),
+        "end": story.end,
+        "held": story.held,
+        "heartbeats": story.heartbeats,
+    }
     whole |= {"missed": story.missed + story.table.missed, "bindings_left_out": story.left_out, "pools": pools}
     print("{" + ",\n".join(f" {json.dumps(key)}: {json.dumps(value)}" for key, value in whole.items()) + ",")
     print_rows("bindings", map(binding_row, story.used()), ",")
     print_rows("refused", (refused_row(*row) for row in story.refusals.rows()), ",")
-    print_rows("payloads", (row._asdict() for row in told_rows(scan)), "")
+    print_rows("payloads", (row._asdict() for row in told_rows(scan)), ",")
+    print_rows("dns_changed", (zone_row(*row) for row in changes.rows()), "")
     print("}")
 
 
@@ -288,16 +306,28 @@ def parsed() -> argparse.Namespace:
     )
     parser.add_argument("--html", metavar="FILE", help="write a page with pictures of the run to FILE, and nothing to standard output")
     parser.add_argument("--pcapng", metavar="FILE", help="write all four captures to FILE as one, with comments, and nothing to standard output")
+    parser.add_argument("--of", metavar="NAME", default="", help="the name of the capture that the run was made of, for the title of the page")
+    parser.add_argument("--notes", metavar="FILE", default="", help=argparse.SUPPRESS)
     return parser.parse_args()
 
 
-def looked_into(story: Story) -> "Scan":
-    """What looks at the payloads of a run. It is loaded only here, since most forms don't need it."""
+def notes_in(path: str) -> dict[str, Any]:
+    """What `try` has to tell on the page: the command, what was left out, and how large pools have to be."""
+    if not path:
+        return {}
+    with open(path, encoding="utf-8") as file:
+        found: dict[str, Any] = json.load(file)
+    return found
+
+
+def looked_into(story: Story) -> "tuple[Scan, Changes]":
+    """What looks at the payloads of a run. It is loaded only here, since some forms don't need it."""
+    from rendapil.explain.changes import Changes
     from rendapil.payloads.scan import Scan, meaning_in
 
-    scan = Scan(meaning_in(story.table))
-    story.behinds.append(scan.event)
-    return scan
+    scan, changes = Scan(meaning_in(story.table)), Changes()
+    story.behinds += [scan.event, changes.take]
+    return scan, changes
 
 
 def explain(words: argparse.Namespace) -> None:
@@ -309,45 +339,45 @@ def explain(words: argparse.Namespace) -> None:
         raise Fault("--html needs jinja2: apt-get install python3-jinja2")
     document, text = document_of(words.settings)
     story = Story(document)
-    is_looked_into = words.html or words.payloads or words.json or not (outputs or words.events or words.statics)
-    scan = looked_into(story) if is_looked_into else None
+    scan, changes = looked_into(story) if not (words.statics or words.new_settings and outputs == [words.new_settings]) else (None, None)
     verdicts = verdicts_of()
     with contextlib.ExitStack() as behind:
         if words.pcapng:
             from rendapil.explain.pcapng import Commented
 
             links = [behind.enter_context(Capture(files[name])).link for name in ("left_in", "left_out", "right_in", "right_out")]
-            commented = Commented(behind.enter_context(written(words.pcapng, "wb")), links, verdicts)
+            commented = Commented(behind.enter_context(written(words.pcapng, "wb")), links, verdicts, scan)
             story.behinds.append(commented.take)
         if words.html:
             from rendapil.explain.gathered import Gathered
             from rendapil.explain.page import Page
 
             gathered = Gathered(story.table)
+            page = Page(verdicts, {name: shown(path) for name, path in files.items()}, shown(words.of), notes_in(words.notes))
+            story.behinds.append(page.talks.take)
             story.befores.append(gathered.before)
             story.behinds.append(gathered.take)
         if words.events:
             from rendapil.explain.events import told as told_event
 
-            story.behinds.append(told_event)
+            story.behinds.append(lambda event: told_event(event, scan.latest if scan else []))
         told = progress()
         _, left_in, right_in, left_out, right_out, report = files.values()
         story.read(left_in, right_in, left_out, right_out, report, told)
         if told:
             print("\033[K", end="", file=sys.stderr, flush=True)
-        if words.html and scan:
-            page = Page(verdicts, {name: shown(path) for name, path in files.items()}).written(gathered, story, scan)
-            behind.enter_context(written(words.html, "w")).write(page)
+        if words.html and scan and changes:
+            behind.enter_context(written(words.html, "w")).write(page.written(gathered, story, scan, changes))
     if words.new_settings:
         with written(words.new_settings, "w") as file:
             file.write(settings_with(text, worth_keeping(story)))
     if words.statics:
         print(statics(worth_keeping(story)), end="")
-    elif scan and words.payloads:
-        tell_payloads(scan)
-    elif scan and words.json:
-        tell_json(story, scan)
-    elif scan and not (outputs or words.events):
+    elif scan and changes and words.payloads:
+        tell_payloads(scan, changes)
+    elif scan and changes and words.json:
+        tell_json(story, scan, changes)
+    elif scan and changes and not (outputs or words.events):
         tell(story, scan)
 
 

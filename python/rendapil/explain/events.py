@@ -1,12 +1,14 @@
 """A line of JSON for each frame of a run. The fields have the names of Suricata's eve.json, where it has them."""
 import json
+from ipaddress import IPv4Address
 
 from rendapil.bindings import SIDES
 from rendapil.frames import Event, address_of, ends, spoken, time_of
+from rendapil.payloads.scan import Left
 
 
-def told(event: Event) -> None:
-    """Writes a frame's line. Heartbeats have none."""
+def told(event: Event, left: list[Left]) -> None:
+    """Writes a frame's line, with the addresses that were left in its payload. Heartbeats have none."""
     if event.is_heartbeat:
         return
     action = event.verdict if event.verdict in ("pass", "held") else "refused"
@@ -19,5 +21,10 @@ def told(event: Event) -> None:
         lines, images = spoken(event.datagram), [line for image in event.images for line in spoken(image)]
         if lines != images:
             line["lines"] = {"came": lines, "sent": images}
+    if left:
+        line["payload"] = [
+            {**one._asdict(), "address": str(IPv4Address(one.address)), "known_as": str(IPv4Address(one.known_as)) if one.known_as else None}
+            for one in left
+        ]
     line["sent"] = len(event.sent)
     print(json.dumps(line))

@@ -7,12 +7,17 @@ from typing import Any, NamedTuple
 
 from rendapil.bindings import SIDES, Binding
 from rendapil.frames import Verdict
+from rendapil.explain.texts import Text, text_of
+from rendapil.explain.talks import Talks
+from rendapil.payloads.applications import BREAKS, UNSURE
+from rendapil.payloads.kept import MAYBE
+from rendapil.explain.changes import Changes, said_of
 from rendapil.explain.gathered import PARTS, Gathered, Parts
 from rendapil.explain.pictures import BOTTOM, HEIGHT, LEFT, TOP, WIDTH, Axis, Picture, Tick, clock, filled, span, stacked
 from rendapil.explain.story import Story
-from rendapil.payloads.scan import Scan, summary_of, told_rows
+from rendapil.payloads.scan import Scan, Told, summary_of, told_rows
 
-SHOWN_BINDINGS, SHOWN_REFUSED = 500, 100
+SHOWN_BINDINGS, SHOWN_REFUSED, SHOWN_ZONES = 500, 100, 50
 """The most rows of each table."""
 
 
@@ -55,9 +60,21 @@ COLOURS = 7
 class Page:
     """Writes the page of a run."""
 
-    def __init__(self, verdicts: dict[str, Verdict], names: dict[str, str]) -> None:
-        self.verdicts, self.names = verdicts, names
+    def __init__(self, verdicts: dict[str, Verdict], names: dict[str, str], of: str = "", notes: dict[str, Any] | None = None) -> None:
+        self.verdicts, self.names, self.of, self.notes = verdicts, names, of, notes or {"command": "", "odd": [], "pools": []}
+        self.talks = Talks()
+        self.texts: dict[str, Text] = {}
         self.classes: dict[str, str] = {}
+
+    def todo_of(self, verdict: str) -> list[tuple[str, str]]:
+        """What to do, in parts: each with the place on the page that tells more of it, or nothing. Those places are remembered."""
+        found = []
+        for words, link in self.verdicts[verdict].links if verdict in self.verdicts else []:
+            text = text_of(link) if link else None
+            if text:
+                self.texts[text.place] = text
+            found.append((words, text.place if text else ""))
+        return found
 
     def group_of(self, verdict: str) -> str:
         """Under which class a verdict is drawn."""
@@ -78,9 +95,11 @@ class Page:
         ]
 
     def frames_pictures(self, run: Gathered) -> list[tuple[str, list[Picture]]]:
-        """The verdicts, by time and by number: of all frames, and of those that were refused."""
+        """The verdicts, by time and by number: of all frames, and of those that were refused. None where all are alike: it would say nothing."""
         refused = [f"g{number}" for number in (*range(1, COLOURS + 1), 0)]
         some = sum(count for verdict, count in run.counts.items() if verdict not in GROUPS)
+        if len(run.counts) < 2:
+            return []
         found = []
         for kind, parts, axis in self.axes(run):
             said = f"{counted(sum(run.counts.values()), 'frame')}, {some:,} of them refused"
@@ -91,7 +110,9 @@ class Page:
         return found
 
     def pools_pictures(self, run: Gathered) -> list[tuple[str, list[Picture]]]:
-        """How full the pools were."""
+        """How full the pools were, where more than statics were taken."""
+        if not any(pool.most > pool.fixed for pool in run.table.pools):
+            return []
         found = []
         for kind, parts, axis in self.axes(run):
             pictures = []
@@ -105,7 +126,41 @@ class Page:
             found.append((kind, pictures))
         return found
 
-    def written(self, run: Gathered, story: Story, scan: Scan) -> str:
+    @staticmethod
+    def pools_said(run: Gathered) -> list[str]:
+        """The pools in words."""
+        return [
+            f"{SIDES[side]} realm: {IPv4Address(pool.first)} to {IPv4Address(pool.last)}, {counted(pool.size, 'address').replace('addresss', 'addresses')}, "
+            + (f"{pool.fixed:,} fixed, and at most {pool.most:,} taken" if pool.most > pool.fixed else f"{pool.fixed:,} fixed, and none taken by use")
+            for side, pool in enumerate(run.table.pools)
+        ]
+
+    def verdict_of(self, run: Gathered, payloads: list[Told], changes: Changes) -> list[str]:
+        """The run in some sentences."""
+        total, passed = sum(run.counts.values()), run.counts["pass"]
+        reasons = [(name, count) for name, count in run.counts.most_common() if name not in GROUPS]
+        refused = sum(count for _, count in reasons)
+        held = f", {run.counts['held']:,} were held as fragments" if run.counts["held"] else ""
+        said = [
+            f"{passed:,} of {counted(total, 'frame')} passed{held}"
+            + (f", and {refused:,} were refused, most as {reasons[0][0]}." if refused else ", and none was refused.")
+        ]
+        breaking = [row for row in payloads if row.weight == BREAKS and row.sure != MAYBE]
+        unsure = [row for row in payloads if row.weight == UNSURE and row.sure != MAYBE]
+        if breaking:
+            names = ", ".join(f"{row.application} ({counted(row.frames, 'frame')})" for row in breaking[:5])
+            said.append(
+                f"What passed isn't all that works: {counted(len(breaking), 'application')} will break, since the gateway leaves addresses alone or refuses the protocol: {names}."
+            )
+        else:
+            said.append("No known application was found that breaks by addresses in its payloads.")
+        if unsure:
+            said.append(f"{counted(len(unsure), 'application')} without a known name carr{'ies' if len(unsure) == 1 else 'y'} addresses.")
+        if changes.answers:
+            said.append(f"{counted(changes.answers, 'DNS answer')} changed.")
+        return said
+
+    def written(self, run: Gathered, story: Story, scan: Scan, changes: Changes) -> str:
         """The page."""
         from jinja2 import Environment, FileSystemLoader, StrictUndefined
 
@@ -124,6 +179,7 @@ class Page:
         axis = self.axes(run)[0][2]
         style, script = (self._part(room, name) for name in ("page.css", "page.js"))
         payloads = told_rows(scan)
+        talks, talks_count = self.talks.rows()
         total, refused = sum(run.counts.values()), sum(count for _, count in reasons)
         return room.get_template("page.html").render(
             {
@@ -140,6 +196,15 @@ class Page:
                 "refused": story.refusals.rows(SHOWN_REFUSED),
                 "refused_count": len(story.refusals.rows()),
                 **{"payloads": payloads, "payloads_said": summary_of(scan, payloads)},
+                **{"verdict_said": self.verdict_of(run, payloads, changes), "of": self.of, "notes": self.notes, "pools_said": self.pools_said(run)},
+                **{
+                    "talks": talks,
+                    "talks_count": talks_count,
+                    "zones": changes.rows()[:SHOWN_ZONES],
+                    "zones_count": len(changes.zones),
+                    "said_of": said_of,
+                },
+                **{"todo": self.todo_of, "texts": self.texts},
                 "missed": story.missed + story.table.missed,
                 "sessions": run.sessions.shown,
                 **{"style": style[0], "style_hash": style[1], "script": script[0], "script_hash": script[1]},

@@ -6,8 +6,10 @@ from typing import BinaryIO
 from rendapil.bindings import SIDES
 from rendapil.files import Frame
 from rendapil.frames import Event, Verdict, compared, spoken, ways
+from rendapil.payloads.scan import Scan
 
 INTERFACES = [f"{side}-{way}" for side in SIDES for way in ("in", "out")]
+FRAME, OPTION, END = struct.Struct("<7I"), struct.Struct("<HH"), struct.Struct("<II")
 COMMENT, NAME, PROGRAM, UNIT = 1, 2, 4, 9
 """Codes of options: a comment, an interface's name, the program that wrote the file, the unit of stamps as a power of ten."""
 
@@ -24,8 +26,8 @@ def block(kind: int, body: bytes, *options: tuple[int, bytes]) -> bytes:
 class Commented:
     """Writes a capture in the format pcapng with the frames of a run. `links` are those of left-in, left-out, right-in and right-out."""
 
-    def __init__(self, file: BinaryIO, links: list[int], verdicts: dict[str, Verdict]) -> None:
-        self._verdicts = verdicts
+    def __init__(self, file: BinaryIO, links: list[int], verdicts: dict[str, Verdict], scan: Scan | None = None) -> None:
+        self._verdicts, self._scan = verdicts, scan
         self._file = file
         self._file.write(block(0x0A0D0D0A, struct.pack("<IHHq", 0x1A2B3C4D, 1, 0, -1), (PROGRAM, b"rendapil explain")))
         for name, link in zip(INTERFACES, links):
@@ -33,17 +35,19 @@ class Commented:
 
     def _put(self, interface: int, moment: int, frame: Frame, comment: str) -> None:
         """Writes a frame."""
-        head = struct.pack("<5I", interface, moment >> 32, moment & 0xFFFFFFFF, len(frame.octets), max(frame.length, len(frame.octets)))
-        self._file.write(block(6, head + frame.octets, (COMMENT, comment.encode())))
+        octets, text, kept = frame.octets, comment.encode(), len(frame.octets)
+        size = kept + -kept % 4 + len(text) + -len(text) % 4 + 40
+        head = FRAME.pack(6, size, interface, moment >> 32, moment & 0xFFFFFFFF, kept, max(frame.length, kept))
+        self._file.write(head + octets + bytes(-kept % 4) + OPTION.pack(COMMENT, len(text)) + text + bytes(-len(text) % 4) + END.pack(0, size))
 
     def take(self, event: Event) -> None:
         """Writes an event: its frame, and those that were sent for it."""
         if event.is_heartbeat:
             return
         self._put(2 * event.side, event.moment, event.frame, self._said(event))
+        came = f": it came as {ways(event.datagram)}" if event.sent and event.datagram else ""
         for number, frame in enumerate(event.sent, 1):
             of = f" ({number} of {len(event.sent)})" if len(event.sent) > 1 else ""
-            came = f": it came as {ways(event.datagram)}" if event.datagram else ""
             self._put(2 * (1 - event.side) + 1, event.moment, frame, f"event {event.number} {SIDES[event.side]}, sent{of}{came}")
 
     def _said(self, event: Event) -> str:
@@ -62,4 +66,5 @@ class Commented:
             for mark, ones, others in (("-", lines, images), ("+", images, lines)):
                 rows = [pieces for pieces in compared(ones, others) if any(piece.changed for piece in pieces)]
                 changed += [f"\n{mark} " + "".join(piece.text for piece in pieces) for pieces in rows[:20]]
-        return front + f"{ways(event.datagram)} became {ways(event.images[0])}" + "".join(changed)
+        left = [f"\n! {one.application}: {one.words}" for one in self._scan.latest] if self._scan else []
+        return front + f"{ways(event.datagram)} became {ways(event.images[0])}" + "".join(changed + left)

@@ -143,10 +143,14 @@ def stacked(name: str, said: str, parts: Parts, axis: Axis, group_of: Callable[[
     return Picture(name, said, [(group, "".join(path)) for group, path in paths.items() if path], axis.ticks(), ups(most), told)
 
 
+def is_near(fixed: int, size: int) -> bool:
+    """Whether the labels of both lines would lie upon each other."""
+    return 0 < fixed and height(fixed, size) - height(size, size) < 30
+
+
 def filled(name: str, said: str, parts: Parts, axis: Axis, side: int, size: int, fixed: int) -> Picture:
-    """How full a pool was, with its size where that is near."""
-    most = max((part.most[side] for part in parts.parts), default=0)
-    top = size if most * 4 >= size else most
+    """How full a pool was, drawn to its size."""
+    top = size
     path, told, marks = [], [], []
     for place, part in enumerate(parts.parts):
         start, end = (parts.start or 0) + place * parts.width, (parts.start or 0) + (place + 1) * parts.width
@@ -160,6 +164,6 @@ def filled(name: str, said: str, parts: Parts, axis: Axis, side: int, size: int,
             marks.append((round(axis.at(start), 1), round(max(2.0, axis.at(end) - axis.at(start)), 1)))
     line = "".join(path)
     area = f"{line}V{height(0, top):.1f}H{LEFT}z" if line else ""
-    lines = [(round(height(size, top), 1), f"size {size:,}")] if top == size else []
-    lines += [(round(height(fixed, top), 1), f"{fixed:,} fixed")] if 0 < fixed <= top else []
+    lines = [(round(height(size, top), 1), f"size {size:,}" + (f", {fixed:,} fixed" if is_near(fixed, size) else ""))]
+    lines += [(round(height(fixed, top), 1), f"{fixed:,} fixed")] if fixed and not is_near(fixed, size) else []
     return Picture(name, said, [("level", area), ("edge", line)], axis.ticks(), ups(top), told, lines, marks)

@@ -105,7 +105,7 @@ class Story:
 
     def __init__(self, settings: dict) -> None:
         self.bindings: list[Binding] = []
-        self.left_out = self.missed = self.heartbeats = self.first = self.last = 0
+        self.left_out = self.missed = self.heartbeats = self.held = self.first = self.last = 0
         self.befores: list[Callable[[Event], object]] = []
         self.behinds: list[Callable[[Event], object]] = []
         self.refusals = Refusals()
@@ -169,6 +169,7 @@ class Story:
             self.table.event(side, moment, verdict, event.datagram, images)
         except (TypeError, AttributeError, LookupError):  # an answer that went out isn't one to the frame that came: the files were changed
             self.missed += 1
+        self.held += verdict == "held"
         if verdict not in ("pass", "held"):
             if event.is_heartbeat:
                 self.heartbeats += 1

@@ -21,7 +21,7 @@ ENDS, USER = re.compile(rb"[\r\n\x00]"), re.compile(rb"//[^/@\s]*@")
 """What ends a line, and who stands in front of a host in a URL."""
 COOKIE = b"\x21\x12\xa4\x42"
 
-TEXT, ORDERED, LITTLE, ARCS, XORED = "text", "four octets", "four octets, the last first", "arcs of an identifier", "STUN"
+TEXT, ORDERED, LITTLE, ARCS, XORED, FIELD = "text", "four octets", "four octets, the last first", "arcs of an identifier", "STUN", "field"
 
 
 def number_of(parts: list[bytes]) -> int:
@@ -30,14 +30,26 @@ def number_of(parts: list[bytes]) -> int:
     return int.from_bytes(bytes(octets)) if max(octets) < 256 and not any(len(part) > 1 and part[:1] == b"0" for part in parts) else 0
 
 
+class Field(NamedTuple):
+    """What an address in a message is for: in words, what it means for an application, which one that is where it isn't that of the flow, and what helps
+    where that isn't what helps the application."""
+
+    says: str
+    weight: str
+    application: str = ""
+    todo: str = ""
+
+
 class Find(NamedTuple):
-    """An address in a payload: its form, its place, where it ends, the address, and whether it may be a version, by what stands before it."""
+    """An address in a payload: its form, its place, where it ends, the address, whether it may be a version, by what stands before it, and what it is
+    for, where the message tells it."""
 
     form: str
     at: int
     end: int
     address: int
     is_vague: bool = False
+    field: Field | None = None
 
 
 def may_have_text(payload: bytes) -> bool:
@@ -116,7 +128,7 @@ def stun_in(payload: bytes) -> Iterator[Find]:
         if size == 8 and payload[at + 5] == 1:
             octets = payload[at + 8 : at + 12]
             is_xored = kind in (0x12, 0x16, 0x20, 0x8020) and payload[4:8] == COOKIE
-            if is_xored or kind in (1, 2, 4, 5, 0x12, 0x8023, 0x802B, 0x802C):
+            if is_xored or kind in (1, 2, 4, 5, 11, 0x11, 0x12, 0x8023, 0x802B, 0x802C):
                 yield Find(XORED, at + 8, at + 12, int.from_bytes(octets) ^ (int.from_bytes(COOKIE) if is_xored else 0))
         at += 4 + size + -size % 4
 
@@ -140,6 +152,8 @@ def words_at(payload: bytes, one: Find) -> str:
         front = line_before(payload, one) if b"\0" not in payload[one.at : one.end] else b""
         front = b"(hidden) " if SECRET.match(front) else USER.sub(b"//(hidden)@", front)[-40:]
         return "".join(chr(octet) if 32 <= octet < 127 else "." for octet in front + payload[one.at : one.end].replace(b"\0", b""))
+    if one.form == FIELD:
+        return f"{one.field.says if one.field else 'mapped into IPv6'}: {IPv4Address(one.address)}"
     if one.form == XORED:
         return f"a STUN attribute has {IPv4Address(one.address)}"
     octets = payload[one.at : one.end].hex(" ")

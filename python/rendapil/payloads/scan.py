@@ -1,23 +1,25 @@
 """Applications whose payloads carry addresses that go on untranslated: which, where, and how sure that is. An address in a payload means a host in
 the realm of its sender. In the other realm it means another host, or nobody, unless it is changed too.
 
-Text is found by its form. Four octets may be there by chance, so they count only with evidence: they follow the address of their sender from host to
-host, or stand at one place again and again, or are too rare to be there by chance. Addresses near those of hosts, which no host has, tell how often
-chance finds one. What is kept has a limit, however long the run is and whoever made up its frames."""
+Text is found by its form, and so are the fields of messages whose form is known. Four octets may be there by chance, so they count only with evidence:
+they follow the address of their sender from host to host, or stand at one place again and again, or are too rare to be there by chance. Addresses near
+those of hosts, which no host has, tell how often chance finds one. What is kept has a limit, however long the run is and whoever made up its frames."""
 from collections import Counter
-from collections.abc import Callable, Iterator
-from dataclasses import dataclass, field
+from collections.abc import Iterator
 from ipaddress import IPv4Address
 from typing import NamedTuple
 
-from rendapil.bindings import CHANGED, FTP_PORT, SIDES, TCP, UDP, Bindings
+from rendapil.bindings import CHANGED, FTP_PORT, SIDES, TCP, UDP
 from rendapil.frames import Event
-from rendapil.packet import is_host, is_private
+from rendapil.packet import is_private
 from rendapil.payloads.addresses import (
+    COOKIE,
+    FIELD,
     LITTLE,
     ORDERED,
     TEXT,
     XORED,
+    Field,
     Find,
     arcs_in,
     keyword,
@@ -28,134 +30,69 @@ from rendapil.payloads.addresses import (
     turned_in,
     words_at,
 )
-from rendapil.payloads.applications import BREAKS, BY_NAME, COPES, HIDDEN, TELLS, Application, application_of
+from rendapil.payloads.applications import BREAKS, BY_NAME, BY_PORT, COPES, HIDDEN, TELLS, UNSURE, Application, application_of, said_in
+from rendapil.payloads.fields import WEB, Place, field_of
+from rendapil.payloads.kept import (
+    ALIAS,
+    APPS,
+    BLOCK,
+    BLOCKS,
+    FAR,
+    FLOWS,
+    HOST,
+    ITSELF,
+    LIKELY,
+    LONG,
+    MAYBE,
+    PEER,
+    PEER_OWN,
+    PLAIN,
+    PREFIXES,
+    PRIVATE,
+    RARE,
+    ROLES,
+    SITES,
+    SURE,
+    VALUES,
+    WEIGHTS,
+    App,
+    Example,
+    Flow,
+    Meaning,
+    Meant,
+    Row,
+    Site,
+    chance_of,
+    meaning_in,
+)
+from rendapil.payloads.structures import BOUND, DECODERS, MAPPED, NAMED_TO_PROXY, SEEN, TO_CONNECT, mapped
 
-FLOWS, APPS, SITES, VALUES, PREFIXES, BLOCKS, BLOCK = 20_000, 300, 200, 4, 8, 256, 1000
-"""The most flows and applications that are known at once, places of an application, values and flows of a place, blocks of 65,536 addresses that are
-looked for in a flow, such blocks of a realm, and hosts of one that are counted."""
-
-LONG = 600
-"""So many octets of a payload tell which application it is of."""
-
-ITSELF, HOST, PRIVATE, PEER, ALIAS, PEER_OWN, FAR = ROLES = ("sender", "host", "private", "receiver", "alias", "receiver's own", "far host")
-"""Whom an address means: the sender, another host of its realm, nobody who is known there; the receiver or another host of the other realm by an alias;
-or the same two by the address that they have in their own realm. The gravest come first."""
-
-SURE, LIKELY, MAYBE = "sure", "likely", "maybe"
-RARE = 0.01
-"""Where chance gives fewer finds than this, a single find counts."""
-
-WEIGHTS = [BREAKS, TELLS, HIDDEN, COPES]
-
-
-class Meant(NamedTuple):
-    """Whom an address means where it is written: one of the roles, and what the other realm calls this host, or 0."""
-
-    role: str
-    known_as: int
-
-
-Meaning = Callable[[int, int], Meant | None]
-"""Whom an address means that a host of a side writes. None where it means the same host in both realms, or is no host's."""
-
-
-def meaning_in(table: Bindings) -> Meaning:
-    """Whom addresses mean in a run, by its bindings."""
-
-    def meaning(side: int, address: int) -> Meant | None:
-        if not is_host(address) or table.is_same(address):
-            return None
-        if alias := table.pools[side].holders.get(address):
-            return Meant(ALIAS, alias.host)
-        if own := table.held_by(side, address):
-            return Meant(HOST, own.alias)
-        if far := table.held_by(1 - side, address):
-            return Meant(FAR, far.alias)
-        return Meant(PRIVATE, 0) if is_private(address) else None
-
-    return meaning
+__all__ = ["HOST", "MAYBE", "Meant", "Scan", "example_of", "lines_of", "meaning_in", "summary_of", "told_rows"]
 
 
-# What is kept.
+SEALED = {one.name for one in BY_NAME.values() if one.weight == HIDDEN} | {"TLS", "QUIC"}
+"""Applications that can't be read behind their first messages."""
+
+SEALED_AFTER = 8
+"""How many payloads of such a flow are looked into."""
+
+BY_PORTS = ("TLS", "QUIC")
+"""Names that are told apart by the port of the server, as those without a name are."""
+
+METHODS = (b"GET ", b"POST", b"HEAD", b"PUT ", b"CONN", b"PROP")
+UPNP = b"schemas-upnp-org"
+LATEST = 8
+"""The most finds of the last frame that are kept for its line or comment."""
 
 
-class Example(NamedTuple):
-    """Where an address was found: the frame's number and side, the ends of its datagram, what stands there, the address and whom it means."""
+class Left(NamedTuple):
+    """An address that was left in a frame: of which application, what it means, the words around it, the address and what the other realm calls it."""
 
-    number: int
-    side: int
-    source: int
-    destination: int
+    application: str
+    weight: str
     words: str
     address: int
     known_as: int
-    is_other: bool
-
-
-@dataclass(slots=True)
-class Site:
-    """A place where messages of an application have an address."""
-
-    form: str
-    role: str
-    at: int
-    example: Example
-    frames: int = 0
-    last: int = 0
-    values: set[int] = field(default_factory=set)
-    flows: set[bytes] = field(default_factory=set)
-
-
-class App:
-    """What was seen of an application: on one port of servers, or of one name."""
-
-    def __init__(self, of: Application, protocol: int, port: int) -> None:
-        self.of, self.protocol, self.port = of, protocol, port
-        self.flows = self.frames = self.more = self.told = self.told_flows = 0
-        self.trials = 0.0
-        self.sites: dict[tuple, Site] = {}
-        self.strays: Counter[int] = Counter()
-
-    @property
-    def name(self) -> str:
-        """Its name, with its protocol and port where it has none that is known."""
-        where = f"{'TCP' if self.protocol == TCP else 'UDP'}" + (f" port {self.port}" if self.port else " on many ports")
-        return f"{self.of.name}, {where}" if self.of.name else where
-
-
-@dataclass(slots=True)
-class Flow:
-    """What goes from one end to another: its application, whether the server sends it, and what is looked for in it."""
-
-    app: App
-    is_served: bool
-    is_changed: bool
-    prefixes: list[bytes]
-    turned: tuple[bytes, ...]
-    weight: int = 0
-    frames: int = 0
-    is_told: bool = False
-
-
-class Row(NamedTuple):
-    """An application that carries addresses: how sure that is, in how many flows and frames at least, and where, the gravest first."""
-
-    app: App
-    sure: str
-    flows: int
-    frames: int
-    sites: list[Site]
-
-    @property
-    def chance(self) -> float:
-        """How many finds of four octets one would expect by chance."""
-        return chance_of(self.app)
-
-
-def chance_of(app: App) -> float:
-    """How many finds of four octets one would expect by chance: if octets were random, or by the places at which an address near a host's was found that
-    no host has."""
-    return max(app.trials / 2**32, len(app.strays) / 8)
 
 
 class Scan:
@@ -164,14 +101,20 @@ class Scan:
     def __init__(self, meaning: Meaning, is_before: bool = False) -> None:
         self._meaning, self.is_before = meaning, is_before
         self.apps: dict[tuple[str, int, int], App] = {}
+        self.refused: Counter[int] = Counter()
+        self.latest: list[Left] = []
         self._flows: dict[bytes, Flow] = {}
+        self._opened: dict[bytes, None] = {}
         self._blocks: tuple[dict[bytes, set[bytes]], ...] = ({}, {})
         self.scanned = 0
 
     def event(self, event: Event) -> None:
-        """Takes an event of a run: what passed."""
+        """Takes an event of a run: what passed, and which protocols were refused."""
+        self.latest = []
         if event.verdict == "pass" and event.datagram:
             self.take(event.number, event.side, event.datagram, event.images)
+        elif event.verdict == "Protocol" and event.datagram:
+            self.refused[event.datagram[9]] += 1
 
     def take(self, number: int, side: int, came: bytes, sent: list[bytes]) -> None:
         """Takes a datagram that went on from a side, and what it became."""
@@ -187,17 +130,27 @@ class Scan:
         else:
             return
         payload = whole[at : int.from_bytes(whole[2:4])]
-        if not payload:
-            return
         key = came[12:20] + whole[head : head + 4] + whole[9:10]
+        if not payload:
+            if protocol == TCP and whole[head + 13] & 18 == 2 and len(self._opened) < FLOWS:
+                self._opened[key] = None
+            return
         flow = self._flows.get(key) or self._begun(key, side, payload, sent)
         flow.frames += 1
+        self.scanned += 1
+        flow.app.frames += 1
+        if flow.frames > SEALED_AFTER and flow.app.of.name in SEALED:
+            return
         if not flow.frames & (flow.frames - 1):  # as more hosts become known
             self._aim(flow, key, side, sent)
-        self.scanned += 1
+        self._look(flow, key, number, side, payload, sent, is_joined)
+
+    def _look(self, flow: Flow, key: bytes, number: int, side: int, payload: bytes, sent: list[bytes], is_joined: bool) -> None:
+        """Looks into a payload, and notes what is found."""
         app = flow.app
-        app.frames += 1
         app.trials += len(payload) * flow.weight
+        if payload[:4] in METHODS or app.of.name == "SOCKS" and not flow.is_served:
+            flow.asked = payload[:LONG]
         finds = self._finds(flow, payload)
         if flow.is_changed:
             if app.of.name == "FTP" and payload[:5].upper() == b"AUTH ":
@@ -205,32 +158,48 @@ class Scan:
             # What a fragment was a part of isn't known before it was changed.
             finds = list(self._unchanged(flow, key, finds, payload, sent)) if finds and not is_joined else []
         if finds:
-            self._note(flow, key, number, side, payload, finds, sent[0][16:20] if sent else came[16:20])
+            self._note(flow, key, number, side, payload, finds, sent[0][16:20] if sent else key[4:8])
 
     def _begun(self, key: bytes, side: int, payload: bytes, sent: list[bytes]) -> Flow:
-        """A flow that is new, or of which too little was seen."""
+        """A flow that is new, or of which too little was seen. Both directions of a connection are one application."""
         port, far_port, protocol = int.from_bytes(key[8:10]), int.from_bytes(key[10:12]), key[12]
+        back = (sent[0][16:20] + sent[0][12:16] if sent else key[4:8] + key[:4]) + key[10:12] + key[8:10] + key[12:]
+        other = self._flows.get(back)
         of, server = application_of(protocol, port, far_port, payload[:LONG])
+        if other:
+            of, server = (other.app.of, other.server) if other.app.of.name and not (of.name and of.weight == HIDDEN) else (of, other.server)
+        elif (protocol, server) not in BY_PORT and (key in self._opened or back in self._opened):
+            server = far_port if key in self._opened else port
         app = self._app(of, protocol, server)
         if len(self._flows) >= FLOWS:
             for old in list(self._flows)[: FLOWS // 2]:
                 del self._flows[old]
+            self._opened.clear()
         is_changed = (protocol, far_port) in CHANGED or (protocol, port) in CHANGED
-        flow = self._flows[key] = Flow(app, port == server, is_changed, [], ())
-        app.flows += key[4:8] + key[:4] + key[10:12] + key[8:10] + key[12:] not in self._flows
+        flow = self._flows[key] = Flow(app, server, port == server, is_changed, back)
+        app.flows += not other
+        if other and not other.app.of.name and of.name:
+            self._rename(other, of)
         for end in (key[:4], key[4:8]):
             if is_private(int.from_bytes(end)) and (end[:2] in self._blocks[side] or len(self._blocks[side]) < BLOCKS):
                 hosts = self._blocks[side].setdefault(end[:2], set())
                 hosts |= {end} if len(hosts) < BLOCK else set()
         return flow
 
+    def _rename(self, flow: Flow, of: Application) -> None:
+        """Gives a flow without a name the application that a later payload tells."""
+        flow.app.flows -= 1
+        flow.app = self._app(of, flow.app.protocol, flow.server)
+        flow.app.flows += 1
+
     def _app(self, of: Application, protocol: int, port: int) -> App:
         """What is known of an application: those without a name are told apart by their ports, as long as there is room."""
-        key = (of.name, protocol, 0 if of.name else port)
-        if key not in self.apps and len(self.apps) >= APPS and not of.name:
-            key = ("", protocol, 0)
+        is_named = bool(of.name) and of.name not in BY_PORTS
+        key = (of.name, protocol, 0 if is_named else port)
+        if key not in self.apps and len(self.apps) >= APPS and not is_named:
+            key = (of.name, protocol, 0)
         if key not in self.apps:
-            self.apps[key] = App(of, protocol, port if key[2] or of.name else 0)
+            self.apps[key] = App(of, protocol, port if key[2] or is_named else 0)
         return self.apps[key]
 
     def _aim(self, flow: Flow, key: bytes, side: int, sent: list[bytes]) -> None:
@@ -245,9 +214,15 @@ class Scan:
     def _finds(flow: Flow, payload: bytes) -> list[Find]:
         """What looks like an address in a payload. Most have nothing of that kind, and are told by a few searches."""
         name = flow.app.of.name
-        if name == "STUN, TURN":
+        if name == "STUN, TURN" or payload[4:8] == COOKIE and payload[0] < 64:
             return list(stun_in(payload))
         finds = list(texts_in(payload, name == "IRC")) if may_have_text(payload) or name == "IRC" else []
+        if decoder := DECODERS.get(name):
+            finds += decoder(payload)
+        elif name in WEB and b":peers" in payload:
+            finds += DECODERS["BitTorrent"](payload)
+        if MAPPED in payload and not any(one.form == FIELD for one in finds):
+            finds += mapped(payload)
         if prefixes := [prefix for prefix in flow.prefixes if prefix in payload]:
             finds += octets_in(payload, prefixes)
         if turned := [end for end in flow.turned if end in payload]:
@@ -277,39 +252,80 @@ class Scan:
 
     def _note(self, flow: Flow, key: bytes, number: int, side: int, payload: bytes, finds: list[Find], image: bytes) -> None:
         """Notes what was found in a frame."""
-        app = flow.app
-        texts = [(one.at, one.end) for one in finds if one.form == TEXT]
-        is_told = False
+        plain = [(one.at, one.end) for one in finds if one.form in PLAIN]
+        told: dict[tuple[App, str], None] = {}
         for one in finds:
             meant = self._meant(one.address, side, key, int.from_bytes(image))
-            if not meant or meant.role == PRIVATE and one.form != TEXT:
+            if not meant or meant.role == PRIVATE and one.form not in PLAIN:
                 if one.form == ORDERED:
-                    self._note_stray(app, one, side)
+                    self._note_stray(flow.app, one, side)
                 continue
-            if one.is_vague and meant.role not in (ITSELF, PEER) or one.form != TEXT and any(at <= one.at < end for at, end in texts):
+            if one.is_vague and meant.role not in (ITSELF, PEER) or one.form not in PLAIN and any(at <= one.at < end for at, end in plain):
                 continue
-            place = (flow.is_served, meant.role, one.form, keyword(payload, one) if one.form == TEXT else one.at)
-            site = app.sites.get(place)
-            if not site:
-                if len(app.sites) >= SITES and (app.more % 64 or not self._make_room(app)):
-                    app.more += 1
-                    continue
-                other = self._meaning(1 - side, one.address)
-                is_other = bool(other and other.role == HOST)
-                source, destination = int.from_bytes(key[:4]), int.from_bytes(key[4:8])
-                example = Example(number, side, source, destination, words_at(payload, one), one.address, meant.known_as, is_other)
-                site = app.sites[place] = Site(one.form, meant.role, one.at, example)
-            if site.last != number:
-                site.last = number
-                site.frames += 1
-            if len(site.values) < VALUES:
-                site.values.add(one.address)
-            if len(site.flows) < VALUES:
-                site.flows.add(key)
-            is_told |= one.form in (TEXT, XORED)
-        app.told += is_told
-        app.told_flows += is_told and not flow.is_told
-        flow.is_told |= is_told
+            app, found = self._use(flow, payload, one, meant)
+            weight = found.weight if found else default_of(app.of, meant.role)
+            site = self._site(app, flow, key, side, number, payload, one._replace(field=found), meant, weight)
+            if site:
+                if site.last != number:
+                    site.last = number
+                    site.frames += 1
+                if len(site.values) < VALUES:
+                    site.values.add(one.address)
+                if len(site.flows) < VALUES:
+                    site.flows.add(key)
+            if one.form in PLAIN:
+                told[app, weight] = None
+                if len(self.latest) < LATEST:
+                    self.latest.append(Left(app.name, weight, words_at(payload, one._replace(field=found)), one.address, meant.known_as))
+        for app, weight in told:
+            app.told[weight] += 1
+            app.told_flows[weight] += (app.of.name, weight) not in flow.told
+            flow.told.add((app.of.name, weight))
+
+    def _use(self, flow: Flow, payload: bytes, one: Find, meant: Meant) -> tuple[App, Field | None]:
+        """Of which application a find is, and what its address is for. HTTP carries other applications, and others have STUN between."""
+        of, protocol = flow.app.of, flow.app.protocol
+        if one.form == XORED:
+            of = BY_NAME["STUN, TURN"]
+        elif of.name in WEB and UPNP in payload:
+            of = BY_NAME["SSDP, UPnP"]
+        elif not of.name and (name := said_in(protocol, payload[:LONG])):
+            of = BY_NAME[name]
+            self._rename(flow, of)
+        used = one.field
+        if used is BOUND and asked_of(self._flows, flow)[1:2] == b"\x01":
+            used = SEEN
+        if used is TO_CONNECT and meant.role not in (ITSELF, HOST, ALIAS):
+            used = NAMED_TO_PROXY
+        if not used and one.form == TEXT:
+            used = field_of(Place(of.name, payload, one, flow.is_served, meant.role not in (ITSELF, HOST, ALIAS), asked_of(self._flows, flow)))
+        if used and used.application:
+            of = BY_NAME[used.application]
+        return (flow.app if of is flow.app.of else self._counted(of, flow)), used
+
+    def _counted(self, of: Application, flow: Flow) -> App:
+        """An application that stands in the flows of another one. Its payloads count once."""
+        app = self._app(of, flow.app.protocol, flow.server)
+        app.flows = max(app.flows, 1)
+        app.frames += 1
+        return app
+
+    def _site(self, app: App, flow: Flow, key: bytes, side: int, number: int, payload: bytes, one: Find, meant: Meant, weight: str) -> Site | None:
+        """The place of a find, where there is room for it."""
+        where = one.field.says if one.form == FIELD and one.field else keyword(payload, one) if one.form == TEXT else one.at
+        place = (flow.is_served, meant.role, one.form, where, weight)
+        site = app.sites.get(place)
+        if site:
+            return site
+        if len(app.sites) >= SITES and (app.more % 64 or not self._make_room(app)):
+            app.more += 1
+            return None
+        other = self._meaning(1 - side, one.address)
+        is_other = bool(other and other.role == HOST)
+        source, destination = int.from_bytes(key[:4]), int.from_bytes(key[4:8])
+        example = Example(number, side, source, destination, words_at(payload, one), one.address, meant.known_as, is_other)
+        site = app.sites[place] = Site(one.form, meant.role, one.at, example, weight, one.field)
+        return site
 
     @staticmethod
     def _make_room(app: App) -> bool:
@@ -342,34 +358,51 @@ class Scan:
     def rows(self) -> list[Row]:
         """The applications that carry addresses, the gravest first."""
         found = [row for app in self.apps.values() if (row := row_of(app))]
-        return sorted(found, key=lambda row: (row.sure == MAYBE, WEIGHTS.index(row.app.of.weight), row.sure != SURE, -row.frames))
+        return sorted(found, key=lambda row: (row.sure == MAYBE, WEIGHTS.index(row.weight), row.sure != SURE, -row.frames))
 
     def hidden(self) -> list[App]:
-        """The applications that are known to carry addresses, and can't be read."""
-        return sorted((app for app in self.apps.values() if app.of.weight == HIDDEN), key=lambda app: -app.frames)
+        """The applications that are known to carry addresses, and can't be read, and those inside TLS and QUIC that tell nothing."""
+        sealed = [app for app in self.apps.values() if app.of.weight == HIDDEN or app.of.name in ("TLS", "QUIC") and not row_of(app)]
+        return sorted((app for app in sealed if app.flows > 0), key=lambda app: (app.of.weight != HIDDEN, -app.frames))
+
+
+def asked_of(flows: dict[bytes, Flow], flow: Flow) -> bytes:
+    """The last request of the other direction."""
+    return flows[flow.back].asked if flow.back in flows else b""
+
+
+def default_of(of: Application, role: str) -> str:
+    """What an address means for an application where nothing more is known of it: that of an end of the connection, as the other end calls itself,
+    only tells whom a message is for."""
+    return TELLS if of.weight == BREAKS and role in (PEER, PEER_OWN) else of.weight
 
 
 def row_of(app: App) -> Row | None:
-    """What is told of an application, if it carries addresses."""
+    """What is told of an application, if it carries addresses: of the gravest of what they mean, if that is likely at least."""
     if app.of.weight == HIDDEN:
         return None
-    sure: dict[str, list[Site]] = {SURE: [], LIKELY: [], MAYBE: []}
-    for site in app.sites.values():
-        if degree := degree_of(app, site):
-            sure[degree].append(site)
-    for degree, sites in sure.items():
-        if sites:
-            best = sorted(sites, key=lambda one: (ROLES.index(one.role), one.form != TEXT, -one.frames))
-            is_text = any(site.form in (TEXT, XORED) for site in best)
-            flows = app.told_flows if is_text else len(set().union(*(site.flows for site in best)))
-            frames = app.told if is_text else max(site.frames for site in best)
-            return Row(app, degree, flows, frames, best)
-    return None
+    found = [(site, degree) for site in app.sites.values() if (degree := degree_of(app, site))]
+    if not found:
+        return None
+    likely = [pair for pair in found if pair[1] != MAYBE] or found
+    weight = min((site.weight for site, _ in likely), key=WEIGHTS.index)
+    chosen = [pair for pair in likely if pair[0].weight == weight]
+    sure = min((degree for _, degree in chosen), key=(SURE, LIKELY, MAYBE).index)
+    sites = [site for site, degree in chosen if degree == sure]
+    is_plain = any(site.form in PLAIN for site in sites)
+    flows = app.told_flows[weight] if is_plain else len(set().union(*(site.flows for site in sites)))
+    frames = app.told[weight] if is_plain else max(site.frames for site in sites)
+    others = [site for site, degree in found if degree != MAYBE and site not in sites] if is_plain else []
+    ranked = [
+        sorted(some, key=lambda one: (WEIGHTS.index(one.weight), ROLES.index(one.role), one.form not in PLAIN, -one.frames))
+        for some in (sites, others)
+    ]
+    return Row(app, weight, sure, flows, frames, ranked[0] + ranked[1])
 
 
 def degree_of(app: App, site: Site) -> str:
     """How sure it is that a place has addresses, or nothing where chance may have put them there."""
-    if site.form in (TEXT, XORED):
+    if site.form in PLAIN:
         return SURE
     if site.form == LITTLE and len(site.values) < 2:
         return MAYBE if site.frames >= 3 and chance_of(app) < RARE else ""
@@ -407,11 +440,28 @@ def plural(count: int, name: str) -> str:
 
 MEANS = {
     BREAKS: "others connect to what it says",
+    UNSURE: "no known application",
     TELLS: "the address is told, and seldom used",
     COPES: "the protocol expects a NAT",
     HIDDEN: "it can't be read",
 }
 """What an address in a payload does."""
+
+REFUSED = {
+    4: ("IP in IP", "another tunnel, over UDP or TCP"),
+    41: ("IPv6 in IPv4", "another tunnel, over UDP or TCP"),
+    47: ("GRE", "end the tunnel before the gateway, or another one over UDP or TCP"),
+    50: ("ESP of IPsec", "NAT traversal (UDP 4500), or end the tunnel before the gateway"),
+    51: ("AH of IPsec", "ESP with NAT traversal (UDP 4500)"),
+    88: ("EIGRP", "a static route to the pool in each realm"),
+    89: ("OSPF", "a static route to the pool in each realm"),
+    94: ("IP in IP", "another tunnel, over UDP or TCP"),
+    103: ("PIM", "no multicast over the gateway"),
+    112: ("VRRP", "routers of a group in one realm"),
+    115: ("L2TP without UDP", "L2TP over UDP"),
+    132: ("SCTP", "SCTP over UDP (RFC 6951), or TCP"),
+}
+"""Protocols that the gateway refuses, by number: their name, and what helps."""
 
 EXAMPLES = 3
 """How many examples are told of an application."""
@@ -433,17 +483,37 @@ class Told(NamedTuple):
 
 
 def told_rows(scan: Scan) -> list[Told]:
-    """The applications whose payloads carry addresses, and those that are known to and can't be read, the gravest first."""
-    found = []
-    for row in scan.rows():
-        app, is_text = row.app, all(site.form in (TEXT, XORED) for site in row.sites)
-        means = MEANS[app.of.weight] if app.of.name else "no known application"
-        chance = None if is_text else float(f"{row.chance:.2g}")
-        examples = [example_of(site, scan.is_before) for site in row.sites[:EXAMPLES]]
-        found.append(Told(app.name, app.of.weight, row.sure, means, row.frames, row.flows, app.frames, chance, examples, app.of.todo))
+    """The applications whose payloads carry addresses, the protocols that the gateway refuses, and the applications that are known to carry some and can't
+    be read: the gravest first."""
+    found = [told_row(scan, row) for row in scan.rows()]
+    refused = [refused_row(protocol, count) for protocol, count in scan.refused.most_common()]
+    place = next((place for place, row in enumerate(found) if row.weight != BREAKS or row.sure == MAYBE), len(found))
+    found[place:place] = refused
     for app in scan.hidden():
-        found.append(Told(app.name, HIDDEN, "", MEANS[HIDDEN], app.frames, app.flows, app.frames, None, [app.of.carries], app.of.todo))
+        is_known = app.of.weight == HIDDEN
+        carries = app.of.carries if is_known else "what is inside may tell addresses"
+        todo = app.of.todo if is_known else "ask which application it is, and test it through the gateway"
+        found.append(Told(app.name, HIDDEN, "", MEANS[HIDDEN], app.frames, app.flows, app.frames, None, [carries], todo))
     return found
+
+
+def told_row(scan: Scan, row: Row) -> Told:
+    """What is told of an application."""
+    app, first = row.app, row.sites[0]
+    is_plain = all(site.form in PLAIN for site in row.sites)
+    says = first.use.says if first.use else app.of.carries if row.weight == app.of.weight else ""
+    means = (MEANS[row.weight] if app.of.name else MEANS[UNSURE]) + (f": {says}" if says else "")
+    chance = None if is_plain else float(f"{row.chance:.2g}")
+    examples = [example_of(site, scan.is_before) for site in row.sites[:EXAMPLES]]
+    todo = first.use.todo if first.use and first.use.todo else app.of.todo
+    return Told(app.name, row.weight, row.sure, means, row.frames, row.flows, app.frames, chance, examples, todo)
+
+
+def refused_row(protocol: int, count: int) -> Told:
+    """What is told of a protocol that the gateway refuses."""
+    name, todo = REFUSED.get(protocol, ("", "another protocol, over UDP or TCP"))
+    name = f"{name}, IP protocol {protocol}" if name else f"IP protocol {protocol}"
+    return Told(name, BREAKS, SURE, "the gateway refuses it", count, 0, count, None, ["it doesn't pass: only ICMP, TCP and UDP do"], todo)
 
 
 def summary_of(scan: Scan, rows: list[Told]) -> str:
@@ -462,6 +532,6 @@ def lines_of(scan: Scan) -> Iterator[str]:
         chance = "" if row.chance is None else f"; chance would give {row.chance:g} in its {plural(row.payloads, 'payload')}"
         yield f"{row.frames:8}{row.flows:7}  {row.application}: {row.sure + ', ' if row.sure else ''}{row.means}{chance}"
         yield from (f"{'':17}{one}" for one in row.examples)
-        if row.weight != COPES:
+        if row.weight != COPES and row.todo:
             yield f"{'':17}To do: {row.todo}"
     yield summary_of(scan, rows)

@@ -7,7 +7,7 @@ import shlex
 import sys
 from collections.abc import Iterator
 from contextlib import suppress
-from ipaddress import IPv4Address, IPv4Network, collapse_addresses
+from ipaddress import IPv4Address, IPv4Network
 
 from rendapil.any_capture import Record
 from rendapil.bindings import SIDES
@@ -20,42 +20,15 @@ from rendapil.planning.firm import MOST_HOSTS, TABLES, Firm, Machine, services_o
 from rendapil.planning.inventories import inventory
 from rendapil.readers import PACKED, PCAPNG, Damaged, whole_records
 from rendapil.sayings import Fault
+from rendapil.public import public_blocks
 from rendapil.settings_text import oid_table, pool_table, same_line, static_table
 from rendapil.trying.two_realms import CANDIDATES, block
 
 WRITTEN = "# Written by rendapil plan"
-PRIVATE = [
-    *map(
-        IPv4Network,
-        (
-            "0.0.0.0/8",
-            "10.0.0.0/8",
-            "100.64.0.0/10",
-            "127.0.0.0/8",
-            "169.254.0.0/16",
-            "172.16.0.0/12",
-            "192.168.0.0/16",
-            "198.18.0.0/15",
-            "224.0.0.0/3",
-        ),
-    )
-]
-"""Blocks whose addresses don't mean the same host everywhere."""
-
 SHOWN, STATICS, SERVICES = 20, 2000, 4
 """The most rows of a table, statics, and services of a host that are told."""
 
 MOST = 65_534
-
-
-def public_blocks(without: list[IPv4Network]) -> list[IPv4Network]:
-    """All blocks of addresses that mean the same host everywhere, but for these."""
-    left = [IPv4Network("0.0.0.0/0")]
-    for hole in collapse_addresses([*PRIVATE, *without]):
-        left = [
-            part for block in left for part in (block.address_exclude(hole) if hole.subnet_of(block) else [] if block.subnet_of(hole) else [block])
-        ]
-    return sorted(left)
 
 
 class Plan:

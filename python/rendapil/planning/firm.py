@@ -13,7 +13,8 @@ from rendapil.bindings import ACK, CHANGED, DNS_PORT, FIN, LONG_TIMEOUT, NAME_HO
 from rendapil.files import ETHERNET
 from rendapil.packet import ICMP, Packet, is_host, is_private
 from rendapil.payloads.applications import by_port
-from rendapil.payloads.scan import HOST, PRIVATE, Meant, Scan
+from rendapil.payloads.kept import HOST, PRIVATE, Meant
+from rendapil.payloads.scan import Scan
 from rendapil.planning.inventories import Flow, Listed
 from rendapil.planning.names import named_hosts
 

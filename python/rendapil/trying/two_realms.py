@@ -10,12 +10,14 @@ from contextlib import suppress
 from dataclasses import dataclass, field
 from ipaddress import IPv4Address, IPv4Network, collapse_addresses
 
-from rendapil.any_capture import Record, whole_of
+from rendapil.any_capture import Record, whole_of, why_none
 from rendapil.bindings import CHANGED, DNS_PORT, FTP_PORT, SIDES, SYN, TCP, UDP, Binding, Bindings, named_in
 from rendapil.files import RAW_IP, bare_head, record_head
 from rendapil.packet import ICMP, Packet, is_host
 from rendapil.settings_text import pool_table, same_line, static_table
 from rendapil.streams import TRACKED
+from rendapil.trying.needs import Needs
+from rendapil.trying.oddities import Oddities
 from rendapil.trying.spoken import Spoken
 
 CANDIDATES = [
@@ -71,6 +73,7 @@ class TwoRealms:
         self.pools: list[tuple[int, int]] = []
         self.left_out: Counter[str] = Counter()
         self.mended = self.filled = self.lines = self.crossed = 0
+        self.needs, self.oddities = Needs(), Oddities()
         self._sides: dict[int, int] = {}
         self._spoken: dict[tuple[int, int, int, int], list[Spoken | None]] = {}
         self._said = 0
@@ -99,24 +102,31 @@ class TwoRealms:
         if NOBODY in (one, other):
             return "not between two hosts (broadcast, multicast)"
         if one == other:
-            return "between two hosts of same blocks" if one == BOTH else f"between two hosts of the {SIDES[one]} realm"
+            return "between two hosts that mean the same in both realms" if one == BOTH else f"between two hosts of the {SIDES[one]} realm"
         return ""
 
     # What is there.
 
-    def survey(self, frames: Iterable[Record]) -> None:
+    def survey(self, frames: Iterable[Record], is_all: bool = True) -> None:
         """Looks at all frames once: who is there, who spoke first, and what is said over FTP and in DNS over TCP."""
         for frame in frames:
             datagram, _ = whole_of(frame.link, frame.octets)
             if not datagram:
-                self.left_out["no IPv4 (ARP, IPv6), or cut before its end"] += 1
+                self.left_out[why_none(frame)] += 1
                 continue
             packet = Packet(datagram)
+            self.oddities.take(packet)
             if why := self._stays(packet) or self._note(packet):
                 self.left_out[why] += 1
                 continue
             self.crossed += 1
+            self.needs.take(packet, frame.moment, self.hosts, self.side_of)
             self._hear(packet)
+        if is_all:
+            self.settle()
+
+    def settle(self) -> None:
+        """Chooses pools and aliases for those who are there."""
         if self.crossed:
             self._choose_pools()
             self._name()
@@ -128,7 +138,7 @@ class TwoRealms:
             ends += [(address, True) for at in (20, 24) if is_host(address := packet.number(packet.head + at, 4))]
         ends = [end for end in ends if self.side_of(end[0]) != BOTH]
         if len(self.hosts) > HOSTS - 4 and any(address not in self.hosts for address, _ in ends):
-            return f"of hosts behind the first {HOSTS:,}"
+            return f"of hosts after the first {HOSTS:,}"
         for address, is_spoken_to in ends:
             host = self.hosts.get(address)
             if not host:
@@ -297,6 +307,10 @@ class TwoRealms:
             if len(blocks) <= 16:
                 break
         return sorted(collapse_addresses(blocks))[:16]
+
+    def public_seen(self) -> int:
+        """How many public addresses of the capture mean the same in both realms."""
+        return sum(side == BOTH and IPv4Address(address).is_global for address, side in self._sides.items())
 
     def settings(self) -> str:
         """The settings for such a gateway."""
