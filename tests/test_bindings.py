@@ -14,7 +14,7 @@ from typing import NamedTuple
 from testing import CASE, INPUTS, OUTPUTS, PROGRAM, RIGHT, datagram
 
 from rendapil import bindings  # noqa: I001
-from rendapil.bindings import ACK, DNS_PORT, FIN, SECOND, SIDES, SYN, TCP, UDP, Binding, Bindings
+from rendapil.bindings import ACK, FIN, SECOND, SIDES, SYN, TCP, UDP, Binding, Bindings
 from dialogues import Dialogues
 from datagrams import fragments, quad, tcp, udp
 from messages import resource

@@ -4,7 +4,6 @@ tools/seconds.tsv: its proof with what compiles and runs a program, its tests, a
 takes behind its last reading is missing. Run it with nothing beside it and nothing kept (`tools/seconds.py rt ci --anew`).
 tools/seconds.py --table: prints what was written as the table of docs/GATE.md."""
 import os
-import re
 import subprocess
 import sys
 import time

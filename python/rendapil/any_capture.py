@@ -8,6 +8,7 @@ from collections import deque
 from collections.abc import Iterator
 from contextlib import closing
 from functools import lru_cache
+from importlib import import_module
 from typing import Any, BinaryIO, NamedTuple
 
 from rendapil.bindings import TCP
@@ -218,8 +219,10 @@ def found_by_scapy(link: int, octets: bytes) -> bytes:
     """The same, for a link or a head that scapy knows, where it is there. Of tunnels only the outer datagram counts."""
     try:
         from scapy.config import conf
-        from scapy.contrib import mpls  # noqa: F401
-        from scapy.layers import dot11, inet, inet6, l2, ppp  # noqa: F401
+        from scapy.layers import inet, inet6, l2
+
+        for name in ("scapy.contrib.mpls", "scapy.layers.dot11", "scapy.layers.ppp"):  # which tell what is in their frames
+            import_module(name)
     except ImportError:
         return b""
     try:

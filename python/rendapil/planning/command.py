@@ -22,7 +22,7 @@ from rendapil.readers import PACKED, PCAPNG, Damaged, whole_records
 from rendapil.sayings import Fault
 from rendapil.public import public_blocks
 from rendapil.settings_text import oid_table, pool_table, same_line, static_table
-from rendapil.trying.two_realms import CANDIDATES, block
+from rendapil.trying.two_realms import CANDIDATES, block_of
 
 WRITTEN = "# Written by rendapil plan"
 SHOWN, STATICS, SERVICES = 20, 2000, 4
@@ -224,7 +224,7 @@ def words_of(words: list[str], first: str | None) -> tuple[list[IPv4Network], li
     files = [first] if first else []
     for word in words:
         try:
-            blocks.append(block(word))
+            blocks.append(block_of(word))
         except (argparse.ArgumentTypeError, ValueError):
             files.append(word)
     return blocks, files

@@ -25,7 +25,7 @@ from rendapil.public import public_blocks
 from rendapil.sayings import Fault, called, quoted
 from rendapil.trying.listing import tell_pairs
 from rendapil.trying.telling import again_of, lost_fragments, notes_of, tell_limits, tell_needs, tell_realms, tell_verdicts, verdicts_in
-from rendapil.trying.two_realms import TwoRealms, block, write_captures
+from rendapil.trying.two_realms import TwoRealms, block_of, write_captures
 
 NAMES = ("settings.toml", "left.pcap", "right.pcap", "left-out.pcap", "right-out.pcap", "report.txt", "run.html", "run.pcapng")
 
@@ -37,8 +37,8 @@ def parsed() -> argparse.Namespace:
     end = "The status is 0, or 1 where the capture can't be read or no frame crosses, or 2 where the words are wrong, or that of the run."
     parser = argparse.ArgumentParser(prog="rendapil try", description=__doc__, epilog=end)
     parser.add_argument("capture", metavar="CAPTURE", help="a capture as pcap or pcapng, packed by gzip or not, of any interface")
-    parser.add_argument("--left", metavar="BLOCK", nargs="+", type=block, default=[], help="addresses of the left realm, as 10.1.0.0/16")
-    parser.add_argument("--same", metavar="BLOCK", nargs="+", type=block, default=[], help="addresses that cross unchanged")
+    parser.add_argument("--left", metavar="BLOCK", nargs="+", type=block_of, default=[], help="addresses of the left realm, as 10.1.0.0/16")
+    parser.add_argument("--same", metavar="BLOCK", nargs="+", type=block_of, default=[], help="addresses that cross unchanged")
     parser.add_argument("--public", action="store_true", help="public addresses get aliases too, and don't mean the same hosts in both realms")
     parser.add_argument("--pool", metavar="COUNT", type=int, help="pools of so many addresses, and statics only for hosts that others contact first")
     parser.add_argument("--keep-sums", action="store_true", help="keep wrong checksums, as offloading leaves them: such frames are refused")

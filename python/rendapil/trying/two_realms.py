@@ -44,7 +44,7 @@ class Host:
     ports: Counter[str] = field(default_factory=Counter)
 
 
-def block(text: str) -> IPv4Network:
+def block_of(text: str) -> IPv4Network:
     """A block of addresses, by any address of it."""
     return IPv4Network(text, strict=False)
 
