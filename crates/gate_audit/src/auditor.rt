@@ -15,11 +15,12 @@ use audit_sessions::AuditedSession;
 use event_outbox::Datagrams;
 use event_state::{State, Taken};
 use expiring_table::Seed;
-use gate_base::{Event, Moment, OutOfMemory, Side, Verdict};
+use gate_base::{Event, Moment, OutOfMemory, Side};
 use gate_settings::Settings;
 use pcap_files::Packet;
 use std::alloc::Global;
 use std::marker::Model;
+use verdicts::Verdict;
 
 /// The settings, what is known, and what is wanted of the last frame.
 pub struct Auditor {

@@ -9,12 +9,13 @@ use dialogue::UnitImage;
 use dns_plans::{Endpoints, Entry, PlanStop, Sender, Session, UnitOctets, UnitPlan, plan_units};
 use dns_stream::RenameList;
 use expiring_table::Seed;
-use gate_base::{Addr, Host, OutOfMemory, Refusal, Side};
+use gate_base::{Addr, Host, OutOfMemory, Side};
 use settings_file::read_settings;
 use std::alloc::Global;
 use std::marker::Model;
 use std::test::Fail;
 use tcp_segments::TcpView;
+use verdicts::Refusal;
 
 /// The other realm's pool has ten addresses.
 const SETTINGS: &[u8] = b"left.pool_first = \"192.168.200.1\"

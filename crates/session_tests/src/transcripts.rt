@@ -6,11 +6,12 @@ use audit_streams::{Sent, WholeStreams};
 use dialogue::Dialogue;
 use dns_stream::DnsUnits;
 use ftp_lines::{ClientLines, ServerLines};
-use gate_base::{Addr, Host, Pair, Refusal};
+use gate_base::{Addr, Host, Pair};
 use ipv4_frames::IpView;
 use std::alloc::Global;
 use std::test::Fail;
 use tcp_segments::{SegmentFields, TcpView, put_segment};
+use verdicts::Refusal;
 
 const PAIR: Pair = Pair {
     client: Addr(0x0a00_0005),

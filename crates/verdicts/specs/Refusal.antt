@@ -1,13 +1,13 @@
 -- The names of verdicts in a report.
 use Rattle.std.specs.Prelude.{ℕ, List, codes}
-use Rattle.gate_base.specs.declared.event.Verdict.{Verdict}
-use Rattle.gate_base.specs.declared.event.Verdict.TheVariants.{Pass, Refused, Held}
-use Rattle.gate_base.specs.declared.refusal.Refusal.{Refusal}
-use Rattle.gate_base.specs.declared.refusal.Refusal.TheVariants.{Snapped, NotIpv4, BadHeader, BadHeaderSum, Fragment, IpOptions, BadFragment}
-use Rattle.gate_base.specs.declared.refusal.Refusal.TheVariants.{FragmentsFull, TtlSpent, NotUnicast, Protocol, BadTransport, BadSum, SourceInPool}
-use Rattle.gate_base.specs.declared.refusal.Refusal.TheVariants.{NoBinding, BadInner, InnerUnbound, BadDns, DnsUnbound, BadSnmp, NoSession, SynData}
-use Rattle.gate_base.specs.declared.refusal.Refusal.TheVariants.{SynInSession, NoAck, Gap, PastEnd, AckAhead, Unlike, StreamLimit, Backlog, BadUnit}
-use Rattle.gate_base.specs.declared.refusal.Refusal.TheVariants.{UnitUnbound, RenamesFull, SessionsFull, PoolEmpty, UnitGrows, SnmpTooLong}
+use Rattle.verdicts.specs.declared.verdict.Verdict.{Verdict}
+use Rattle.verdicts.specs.declared.verdict.Verdict.TheVariants.{Pass, Refused, Held}
+use Rattle.verdicts.specs.declared.refusal.Refusal.{Refusal}
+use Rattle.verdicts.specs.declared.refusal.Refusal.TheVariants.{Snapped, NotIpv4, BadHeader, BadHeaderSum, Fragment, IpOptions, BadFragment}
+use Rattle.verdicts.specs.declared.refusal.Refusal.TheVariants.{FragmentsFull, TtlSpent, NotUnicast, Protocol, BadTransport, BadSum, SourceInPool}
+use Rattle.verdicts.specs.declared.refusal.Refusal.TheVariants.{NoBinding, BadInner, InnerUnbound, BadDns, DnsUnbound, BadSnmp, NoSession, SynData}
+use Rattle.verdicts.specs.declared.refusal.Refusal.TheVariants.{SynInSession, NoAck, Gap, PastEnd, AckAhead, Unlike, StreamLimit, Backlog, BadUnit}
+use Rattle.verdicts.specs.declared.refusal.Refusal.TheVariants.{UnitUnbound, RenamesFull, SessionsFull, PoolEmpty, UnitGrows, SnmpTooLong}
 
 -- the refusal's name
 unfoldable pub name_of : Refusal → List ℕ

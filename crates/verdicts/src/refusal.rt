@@ -80,7 +80,7 @@ pub enum Refusal {
 }
 
 impl Refusal {
-    ghost use Rattle.gate_base.specs.Refusal.{name_of};
+    ghost use Rattle.verdicts.specs.Refusal.{name_of};
 
     /// The refusal's name, as a report prints it.
     #[tactic(auto, unfolding(crate::specs::Refusal::name_of))]

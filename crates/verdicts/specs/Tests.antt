@@ -1,6 +1,6 @@
 -- Tests in their order.
 use Rattle.std.specs.Prelude.{Bool, cond, List, [], ◌∷◌, Option, Some, None}
-use Rattle.gate_base.specs.declared.refusal.Refusal.{Refusal}
+use Rattle.verdicts.specs.declared.refusal.Refusal.{Refusal}
 
 -- the refusal of the first test that holds
 abbrev pub first_that_holds : List (Bool × Refusal) → Option Refusal
