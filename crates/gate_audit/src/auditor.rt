@@ -69,6 +69,7 @@ impl Auditor {
         requires forms { HasForms settings }
         ensures { IfOk result (IsOpening settings) }
     {
+        // For the proof alone.
         have_mac_addresses(&settings);
         Ok(Auditor {
             state: State::new(alloc, &settings, Seed::from_number(seed))?,
@@ -99,6 +100,7 @@ impl Auditor {
             (at_moment (whole_world self.old) event.now.moment.0)
             (event_of event.now)) }
     {
+        // For the proof alone.
         are_octets(event.octets);
         self.lost = true;
         self.state.expire(event.moment);
@@ -175,6 +177,7 @@ impl Auditor {
 fn has_six_octets(address: &[u8; 6])
     ensures { length address.now ≡ 6 }
 {
+    // The proof knows the length of an array by a look at it.
     let _ = address.len();
 }
 
