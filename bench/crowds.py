@@ -134,6 +134,43 @@ def crowd_over_tcp(most, **changes):
     return Crowd(most, **{**WORST_TCP, "crowd": WORST_TCP["crowd"] * most // 8192, "led": WORST_TCP["led"] * most // 8192 + (most < 8192), **changes}).octets
 
 
+def reverse_suffixes(begin):
+    """The octets of a text that stands at a place, with the ends of reverse names from 1.0.0.1 on, and the places of these: `3.2.1.in-addr.arpa` and so on, without an end."""
+    text, top = bytearray(label(b"in-addr") + label(b"arpa") + b"\0"), begin
+    for first in range(1, 10):
+        one = begin + len(text)
+        text += label(b"%d" % first) + pointer(top)
+        for second in range(10):
+            two = begin + len(text)
+            text += label(b"%d" % second) + pointer(one)
+            for third in range(10):
+                text += label(b"%d" % third) + pointer(two)
+                yield bytes(text), begin + len(text) - 4
+
+
+def fanned(most, reverse, suffixes, tail, led=0):
+    """Names of which none comes twice. Owners are reverse names of ten hosts for each of so many ends, and in the data are names of a label before one of
+    so many suffixes, each before the same `tail` labels. At the end are `led` names that lead into a text."""
+    begin = 12 + 11
+    made = list(itertools.islice(reverse_suffixes(begin), reverse))
+    text, ends = made[-1][0], [place for _, place in made]
+    long = begin + len(text)
+    text += label(b"a") * tail + b"\0"
+    starts = []
+    for number in range(suffixes):
+        starts.append(begin + len(text))
+        text += label(bytes([number])) + pointer(long)
+    records = [resource(b"\0", TXT, text)]
+    grown = begin + len(text) + 11
+    records += [resource(b"\0", TXT, b"\x3f" * 192 + bytes(80))] * (led > 0)
+    owners = itertools.cycle(label(b"%d" % last) + pointer(end) for end in ends for last in range(10))
+    data = (label(bytes([number])) + pointer(start) for number in itertools.cycle(range(256)) for start in starts)
+    room = most - 12 - sum(map(len, records)) - LED * led
+    records += [resource(owner, MINFO, next(data) + next(data)) for owner in itertools.islice(owners, room // 22)]
+    records += [resource(pointer(grown + number), TXT) for number in range(1, 1 + led)]
+    return struct.pack(">6H", 7, 0x8180, 0, len(records), 0, 0) + b"".join(records)
+
+
 def forked(octets, bits=504, tail=1):
     """Labels of so many octets in front of one name, each of which differs from the ones before it in another bit, and then in a number."""
     names = itertools.chain((1 << 8 * octets - 1 - bit for bit in range(min(bits, 8 * octets))), itertools.cycle(range(min(1 << 20, 256**octets))))

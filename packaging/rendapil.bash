@@ -1,24 +1,26 @@
 # Completion of rendapil for bash.
 _rendapil() {
-    local cur prev words cword commands="run audit make check explain try test"
-    [ ! -e "$(dirname "$(readlink -f "$(type -P "$1")")")/crates.txt" ] || commands+=" prove"
-    _init_completion || return
+    local words=("${COMP_WORDS[@]}") cword=$COMP_CWORD cur=${COMP_WORDS[COMP_CWORD]} prev=${COMP_WORDS[COMP_CWORD - 1]}
+    local commands="run audit make check explain try plan compare export test"
+    [ ! -e "$(dirname "$(readlink -f "$(type -P "$1")")")/crates.txt" ] || commands+=" build prove"
     if [ "$cword" -eq 1 ]; then
         mapfile -t COMPREPLY < <(compgen -W "$commands help --help --version --program --quiet" -- "$cur")
         return
     fi
     case "${words[1]} $cur" in
-    "explain -"*) mapfile -t COMPREPLY < <(compgen -W "--statics --json --events --settings --html --pcapng --help" -- "$cur") ;;
-    "try -"*) mapfile -t COMPREPLY < <(compgen -W "--left --same --pool --keep-sums --out --help" -- "$cur") ;;
+    "explain -"*) mapfile -t COMPREPLY < <(compgen -W "--statics --json --events --settings --html --pcapng --payloads --help" -- "$cur") ;;
+    "try -"*) mapfile -t COMPREPLY < <(compgen -W "--left --same --pool --keep-sums --keep-cut --out --help" -- "$cur") ;;
+    "plan -"*) mapfile -t COMPREPLY < <(compgen -W "--left --right --no-same --out --help" -- "$cur") ;;
+    "compare -"*) mapfile -t COMPREPLY < <(compgen -W "--left --right --left-mac --right-mac --clocks --window --any-ttl --any-port --lossy --keep --json --help" -- "$cur") ;;
+    "export -"*) mapfile -t COMPREPLY < <(compgen -W "--left --right --left-via --right-via --table --help" -- "$cur") ;;
     "check -"*) mapfile -t COMPREPLY < <(compgen -W "--brief --help" -- "$cur") ;;
     "run -"* | "audit -"* | "make -"*) mapfile -t COMPREPLY < <(compgen -W "--quiet --help -" -- "$cur") ;;
     "help "* | "--quiet "*) mapfile -t COMPREPLY < <(compgen -W "$commands" -- "$cur") ;;
     *)
-        case "$prev" in
-        --left | --same | --pool) ;;
-        --out) _filedir -d ;;
-        *) _filedir ;;
-        esac
+        case "${words[1]} $prev" in
+        *" --left" | *" --right" | *" --same" | *" --pool") compopt +o default ;;
+        *" --keep" | "try --out") compopt +o default && mapfile -t COMPREPLY < <(compgen -d -- "$cur") ;;
+        esac # else a file: `-o default`
         ;;
     esac
-} && complete -F _rendapil rendapil
+} && complete -o default -F _rendapil rendapil

@@ -6,11 +6,11 @@ import subprocess
 import tempfile
 import unittest
 
-from testing import INPUTS, PROGRAM, RIGHT, TOOLS, capture, said
+from testing import CHECK, INPUTS, PROGRAM, RIGHT, TOP, capture, said
 
 from datagrams import fragments, udp  # testing says where it is
 
-CHECK, BRIEF = f"{TOOLS}/check_settings", f"{TOOLS}/check_captures.py"
+BRIEF = ("env", f"PYTHONPATH={TOP}/python", "python3", "-m", "rendapil.check.captures")
 GOOD, BACK = udp("10.0.0.9", 4, "192.168.200.1", 5, b"x"), udp("10.0.0.8", 4, "172.16.9.1", 5, b"x")
 FAR, OWN = udp("10.0.0.9", 4, "10.0.0.8", 5, b"x"), udp("192.168.200.9", 4, "192.168.200.1", 5, b"x")
 
@@ -35,14 +35,14 @@ class Captures(unittest.TestCase):
 
     def lines(self, *paths: str) -> list[str]:
         """What is said of captures."""
-        status, text = said(CHECK, "--brief", self.settings, *paths)
+        status, text = said(*CHECK, "--brief", self.settings, *paths)
         self.assertEqual(status, 1 if text else 0)
         self.assertTrue(text.isascii() and text.replace("\n", "").isprintable(), text)
         return text.splitlines()
 
     def test_counts_are_the_programs(self) -> None:
         """As many frames are told as the program refuses for it; of the example nothing is."""
-        self.assertEqual(said(CHECK, "--brief", *INPUTS), (0, ""))
+        self.assertEqual(said(*CHECK, "--brief", *INPUTS), (0, ""))
         ether = [bytes(12) + b"\x81\0\0\7\x08\0" + BACK, bytes(12) + b"\x08\0" + BACK[:26] + b"\0\1" + BACK[28:], bytes(12) + b"\x08\0" + BACK[:10] + b"\0\1" + BACK[12:]]
         parts = list(fragments(udp("10.0.0.9", 4, "192.168.200.1", 5, bytes(64)), 40))
         left = self.write("left", capture([GOOD, FAR, OWN, FAR, FAR, *parts]))
@@ -62,7 +62,7 @@ class Captures(unittest.TestCase):
         good = self.write("good", capture([GOOD] * 5))
         swapped = [f"left and right are swapped: 9 of 9 frames go to the other realm's pool. Name {good} before {self.back}"]
         self.assertEqual(self.lines(self.back, good), swapped)
-        self.assertEqual(said(BRIEF, self.settings, self.back, good), (0, swapped[0] + "\n"))
+        self.assertEqual(said(*BRIEF, self.settings, self.back, good), (0, swapped[0] + "\n"))
         self.assertEqual(self.lines(good, self.back), [])
         copy = self.write("copy", capture([GOOD] * 5))
         for other in (good, copy):
@@ -103,9 +103,9 @@ class Captures(unittest.TestCase):
         ):
             self.assertEqual(self.lines(self.write(name, octets), self.back), [f"{self.room}/{name}: it {line}"])
         self.assertEqual(self.lines(f"{self.room}/absent\x1b", self.back), [f"{self.room}/absent\\x1b: it can't be read: No such file or directory"])
-        self.assertEqual(said(CHECK, self.settings, self.back)[0], 2)
+        self.assertEqual(said(*CHECK, self.settings, self.back)[0], 2)
 
     def test_a_run_says_nothing_more(self) -> None:
         """Where it can't look: no line, no traceback."""
-        self.assertEqual(said(BRIEF, self.settings, "/dev/null", self.back), (0, ""))
-        self.assertEqual(said(BRIEF, self.back, self.back, self.back), (0, ""))
+        self.assertEqual(said(*BRIEF, self.settings, "/dev/null", self.back), (0, ""))
+        self.assertEqual(said(*BRIEF, self.back, self.back, self.back), (0, ""))

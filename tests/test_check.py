@@ -3,7 +3,7 @@ import os
 import tempfile
 import unittest
 
-from testing import INPUTS, LIVE, MERGER, PROGRAM, RIGHT, TOOLS, TOP, said
+from testing import CHECK, INPUTS, LIVE, MERGER, PROGRAM, RIGHT, TOP, said
 
 FAULTS = (
     ("left = 5", "Kind left"),
@@ -31,7 +31,7 @@ FAULTS = (
 
 
 class Check(unittest.TestCase):
-    """What check_settings finds."""
+    """What check finds."""
 
     def setUp(self) -> None:
         """A file for settings."""
@@ -43,7 +43,7 @@ class Check(unittest.TestCase):
         """What is said of settings, in short."""
         with open(self.name, "w", encoding="utf-8") as file:
             file.write(text)
-        status, told = said(f"{TOOLS}/check_settings", "--brief", self.name)
+        status, told = said(*CHECK, "--brief", self.name)
         self.assertEqual(status, 1 if told else 0)
         return [line.removeprefix(f"{self.name}: ") for line in told.splitlines()]
 
@@ -75,23 +75,23 @@ class Check(unittest.TestCase):
         self.assertEqual(self.lines_of('a = 1\nb = "x\n'), ["NotToml: Illegal character '\\n' (at line 2, column 7)"])
         with open(self.name, "wb") as file:
             file.write(b"a = 1\n# \xff\n")
-        self.assertIn("line 2 isn't text in UTF-8", said(f"{TOOLS}/check_settings", self.name)[1])
+        self.assertIn("line 2 isn't text in UTF-8", said(*CHECK, self.name)[1])
 
     def test_files(self) -> None:
         """More settings are checked each; one comes from standard input; one capture isn't enough."""
         with open(self.name, "w", encoding="utf-8") as file:
             file.write(RIGHT + "elephants = 3")
         line = f"{self.name}: elephants isn't known, and is ignored\n"
-        self.assertEqual(said(f"{TOOLS}/check_settings", "--brief", INPUTS[0], self.name), (1, line))
-        self.assertEqual(said("sh", "-c", f"{TOOLS}/check_settings --brief - <{self.name}"), (1, line.replace(self.name, "-")))
-        self.assertEqual(said(f"{TOOLS}/check_settings", INPUTS[0], INPUTS[1])[0], 2)
+        self.assertEqual(said(*CHECK, "--brief", INPUTS[0], self.name), (1, line))
+        self.assertEqual(said("sh", "-c", f"{TOP}/rendapil check --brief - <{self.name}"), (1, line.replace(self.name, "-")))
+        self.assertEqual(said(*CHECK, INPUTS[0], INPUTS[1])[0], 2)
 
     def test_hostile(self) -> None:
         """Control characters are escaped, names that aren't UTF-8 too, and what would take long is told at once."""
         with open(self.name, "w", encoding="utf-8") as file:
             file.write('"\\u001b[2J" = "x"\n' + RIGHT)
-        self.assertEqual(said(f"{TOOLS}/check_settings", "--brief", self.name), (1, f"{self.name}: \\x1b[2J isn't known, and is ignored\n"))
-        self.assertEqual(said(f"{TOOLS}/check_settings", "\x1b\udcff"), (1, "rendapil check: \\x1b\\xff: No such file or directory\n"))
+        self.assertEqual(said(*CHECK, "--brief", self.name), (1, f"{self.name}: \\x1b[2J isn't known, and is ignored\n"))
+        self.assertEqual(said(*CHECK, "\x1b\udcff"), (1, "rendapil check: \\x1b\\xff: No such file or directory\n"))
         for key in ("a" + ".a" * 500_000, '"a"' + ' . "a"' * 65):
             self.assertEqual(self.lines_of(f"{RIGHT}{key} = 1\n"), ["NotToml: line 4 has a key of more than 64 parts, and isn't read here"])
         lines = self.lines_of("".join(f"k{number} = 1\n" for number in range(60_000)) + RIGHT)
@@ -105,7 +105,7 @@ class Check(unittest.TestCase):
         right = '[[static]]\nside = "right"\nhost = "10.0.0.5"\nalias = "192.168.200.1"\n'
         for text, bare in ((rules, "left and right"), (rules + left, "right"), (rules + right, "left"), (rules + left + right, ""), (RIGHT + left, "")):
             self.assertEqual(self.lines_of(text), [])
-            status, told = said(f"{TOOLS}/check_settings", self.name)
+            status, told = said(*CHECK, self.name)
             lines = [line for line in told.splitlines() if line.startswith(f"{self.name}: ")]
             self.assertEqual((status, len(lines)), (1, 1) if bare else (0, 0))
             self.assertEqual([line.partition(" hosts, and ")[0] for line in lines], [f"{self.name}: oid: SNMP messages tell aliases of {bare}"] if bare else [])
@@ -113,6 +113,6 @@ class Check(unittest.TestCase):
     def test_examples(self) -> None:
         """Those of this repository are right, and told."""
         for name in (f"{MERGER}/settings.toml", f"{LIVE}/settings.toml", f"{TOP}/examples/live/settings.toml"):
-            status, text = said(f"{TOOLS}/check_settings", name)
+            status, text = said(*CHECK, name)
             self.assertEqual(status, 0)
             self.assertIn("left pool: 192.168.200.1 to 192.168.200.254, 254 addresses for hosts of the right realm, 3 of them fixed\n", text)

@@ -21,16 +21,12 @@ from ipaddress import IPv4Address
 from typing import NamedTuple
 from unittest import mock
 
-from testing import CASE, INPUTS, LIVE, MERGER, OUTPUTS, PROGRAM, RIGHT, TOOLS, TOP, datagram, load, said
+from testing import CASE, CHECK, EXPLAIN, INPUTS, LIVE, MERGER, OUTPUTS, PROGRAM, RIGHT, TOP, datagram, said
 
-check_settings, tell_run = load("check_settings"), load("tell_run")
-import bindings  # noqa: E402
-import run_frames  # noqa: E402
-import run_gathered  # noqa: E402
-import run_story  # noqa: E402
+from rendapil import bindings, frames
+from rendapil.explain import command as explain, gathered as collected, story as stories
 
-EXPLAIN = f"{TOOLS}/tell_run"
-HAS_JINJA = bool(find_spec("jinja2")) or said("/usr/bin/python3", "-c", "import jinja2, tomllib")[0] == 0
+HAS_JINJA = bool(find_spec("jinja2")) or said("/usr/bin/python3", "-I", "-c", "import jinja2, tomllib")[0] == 0
 WAYS = (("10.0.0.5 > 192.168.200.1", "172.16.9.1 > 10.0.0.53"), ("10.0.0.53 > 172.16.9.1", "192.168.200.1 > 10.0.0.5"))
 """The ways of datagrams as they come and as they are sent, from each side."""
 NAMES = ("settings.toml", "left.pcap", "right.pcap", "left-out.pcap", "right-out.pcap", "report.txt")
@@ -38,10 +34,10 @@ STATIC = '[[static]]\nside = "right"\nhost = "10.0.0.53"\nalias = "192.168.200.1
 HOSTILE = b"<script>document.title='owned'</script><img src=x onerror=\"document.title='owned'\"> & \x1b]0;owned\x07 {{ 7 * 7 }} \xff\x9b"
 
 
-def story_of(settings: str, *files: str) -> run_story.Story:
+def story_of(settings: str, *files: str) -> stories.Story:
     """The story of a run."""
     with open(settings, "rb") as file:
-        story = run_story.Story(tomllib.load(file))
+        story = stories.Story(tomllib.load(file))
     story.read(*files)
     return story
 
@@ -129,9 +125,9 @@ class Explain(InRoom):
         """The page's output is what it says; a report may come through a pipe."""
         with open(f"{MERGER}/explain.txt", encoding="ascii") as file:
             expected = file.read()
-        self.assertEqual(said(EXPLAIN, *INPUTS, *OUTPUTS), (0, expected))
+        self.assertEqual(said(*EXPLAIN, *INPUTS, *OUTPUTS), (0, expected))
         with open(OUTPUTS[2], "rb") as report:
-            done = subprocess.run([EXPLAIN, *INPUTS, *OUTPUTS[:2], "-"], stdin=report, capture_output=True, text=True, check=True)
+            done = subprocess.run([*EXPLAIN, *INPUTS, *OUTPUTS[:2], "-"], stdin=report, capture_output=True, text=True, check=True)
         self.assertEqual(done.stdout, expected)
 
     def test_example_is_of_the_program(self) -> None:
@@ -146,27 +142,27 @@ class Explain(InRoom):
 
     def test_json(self) -> None:
         """It is what the text says, with moments as RFC 3339 too; a report in JSON gives the same."""
-        status, text = said(EXPLAIN, "--json", *CASE)
+        status, text = said(*EXPLAIN, "--json", *CASE)
         whole = json.loads(text)
         story = story_of(*CASE)
         self.assertEqual((status, whole["heartbeats"], whole["pools"]["left"]["most"]), (0, 1127, 44))
         self.assertEqual([row["alias"] for row in whole["bindings"]], [str(IPv4Address(one.alias)) for one in story.used()])
         self.assertEqual([row["count"] for row in whole["refused"]], [row.count for *_, row in story.refusals.rows()])
         self.assertTrue(all(sum(row["for"].values()) + row["for_others"] == row["count"] for row in whole["refused"]))
-        self.assertEqual(whole["first_time"], run_frames.time_of(whole["first"]))
+        self.assertEqual(whole["first_time"], frames.time_of(whole["first"]))
         lines = []
         with open(CASE[5], encoding="ascii") as file:
             for line in file:
-                number, side, moment, verdict, frames, *_ = line.split() + [""] * 4
-                lines.append(f'{{"event":{number},"frames":{frames},"moment":{moment},"side":"{side}","verdict":"{verdict}"}}\n' if number != "done" else line)
+                number, side, moment, verdict, count, *_ = line.split() + [""] * 4
+                lines.append(f'{{"event":{number},"frames":{count},"moment":{moment},"side":"{side}","verdict":"{verdict}"}}\n' if number != "done" else line)
         lines[-1] = '{"done":true,"events":2}\n' if lines[-1].startswith("done") else lines[-1]
-        again = json.loads(said(EXPLAIN, "--json", *CASE[:5], self.write("report.json", "".join(lines)))[1])
+        again = json.loads(said(*EXPLAIN, "--json", *CASE[:5], self.write("report.json", "".join(lines)))[1])
         self.assertEqual({**again, "end": ""}, {**whole, "end": ""})
 
     def test_statics(self) -> None:
         """With the aliases as statics the settings are right, and the same hosts have the same aliases for good: by tables, and as new settings
         wherever the old ones keep their statics."""
-        status, tables = said(EXPLAIN, "--statics", *INPUTS, *OUTPUTS)
+        status, tables = said(*EXPLAIN, "--statics", *INPUTS, *OUTPUTS)
         with open(INPUTS[0], encoding="ascii") as file:
             text = file.read()
         self.assertEqual(status, 0)
@@ -174,8 +170,8 @@ class Explain(InRoom):
         inline = "static = [" + ", ".join("{ " + ", ".join(f'{key} = "{value}"' for key, value in row.items()) + " }" for row in rows) + "]\n"
         short = self.write("short.toml", inline + re.sub(r"(?s)\[\[static\]\].*?(?=\n\[|\Z)", "", text))
         for settings in (INPUTS[0], short):
-            self.assertEqual(said(EXPLAIN, "--settings", f"{self.room}/new.toml", settings, *INPUTS[1:], *OUTPUTS), (0, ""))
-            self.assertEqual(said(f"{TOOLS}/check_settings", "--brief", f"{self.room}/new.toml"), (0, ""))
+            self.assertEqual(said(*EXPLAIN, "--settings", f"{self.room}/new.toml", settings, *INPUTS[1:], *OUTPUTS), (0, ""))
+            self.assertEqual(said(*CHECK, "--brief", f"{self.room}/new.toml"), (0, ""))
             with open(settings, "rb") as old, open(f"{self.room}/new.toml", "rb") as new:
                 before, after = tomllib.load(old), tomllib.load(new)
             self.assertEqual({**before, "static": 0}, {**after, "static": 0})
@@ -185,9 +181,9 @@ class Explain(InRoom):
     def test_statics_fill_half_of_a_pool(self) -> None:
         """Hosts that were used once get none, and the others at most half of a pool."""
         story = story_of(*CASE)
-        self.assertTrue(all(one.uses > 1 and not one.fixed for one in tell_run.worth_keeping(story)))
+        self.assertTrue(all(one.uses > 1 and not one.fixed for one in explain.worth_keeping(story)))
         story.table.pools[0].last = story.table.pools[0].first + 19
-        self.assertEqual(sum(one.side == 1 for one in tell_run.worth_keeping(story)), 10 - story.table.pools[0].fixed)
+        self.assertEqual(sum(one.side == 1 for one in explain.worth_keeping(story)), 10 - story.table.pools[0].fixed)
 
     def test_words(self) -> None:
         """Words that can't be meant are told, and nothing is written."""
@@ -202,9 +198,9 @@ class Explain(InRoom):
             ([*INPUTS, *OUTPUTS[:2], self.room], f"{self.room}: Is a directory"),
             (["--pcapng", f"{self.room}/absent/x", *INPUTS, *OUTPUTS], f"{self.room}/absent/x: No such file or directory"),
         ):
-            self.assertEqual(said(EXPLAIN, *words), (1, f"rendapil explain: {line}\n"))
+            self.assertEqual(said(*EXPLAIN, *words), (1, f"rendapil explain: {line}\n"))
         self.assertEqual(os.listdir(self.room), [])
-        status, text = said(EXPLAIN, "--help")
+        status, text = said(*EXPLAIN, "--help")
         self.assertEqual((status, "The status is 0, or 1" in " ".join(text.split())), (0, True))
 
     def test_other_files(self) -> None:
@@ -216,28 +212,26 @@ class Explain(InRoom):
             ([*INPUTS, OUTPUTS[2], *OUTPUTS[1:]], f"{OUTPUTS[2]} is no capture"),
             ([*INPUTS, *OUTPUTS[:2], INPUTS[1]], "line 1 is none that a run writes. Is it a report?"),
         ):
-            status, text = said(EXPLAIN, *words)
+            status, text = said(*EXPLAIN, *words)
             self.assertEqual((status, text.count("\n"), line in text), (1, 1, True), text)
             self.assertTrue(text.startswith("rendapil explain: these aren't files of one run: "))
 
     def test_where_it_writes(self) -> None:
         """A reader that has enough ends it quietly; a full disk is told; Python 3.10 is told."""
-        with subprocess.Popen([EXPLAIN, "--events", *CASE], stdout=subprocess.PIPE, stderr=subprocess.PIPE) as command:
+        with subprocess.Popen([*EXPLAIN, "--events", *CASE], stdout=subprocess.PIPE, stderr=subprocess.PIPE) as command:
             command.stdout.readline()
             command.stdout.close()
             self.assertEqual((command.stderr.read(), command.wait()), (b"", -13))
         with open("/dev/full", "wb") as full:
-            done = subprocess.run([EXPLAIN, *CASE], stdout=full, stderr=subprocess.PIPE, text=True, check=False)
+            done = subprocess.run([*EXPLAIN, *CASE], stdout=full, stderr=subprocess.PIPE, text=True, check=False)
         self.assertEqual((done.returncode, done.stderr), (1, "rendapil explain: standard output: No space left on device\n"))
-        old = "import sys, runpy; sys.version_info = (3, 10, 0); runpy.run_path(sys.argv[1], run_name='__main__')"
-        self.assertEqual(said(sys.executable, "-c", old, EXPLAIN), (1, "rendapil explain: this needs Python 3.11\n"))
 
     def test_colours(self) -> None:
         """Reasons are red on a terminal, unless NO_COLOR or TERM say otherwise."""
         for names, is_red in (({}, True), ({"NO_COLOR": "1"}, False), ({"TERM": "dumb"}, False)):
             own, other = pty.openpty()
             kept = {name: value for name, value in os.environ.items() if name != "NO_COLOR"}
-            subprocess.run([EXPLAIN, *INPUTS, *OUTPUTS], env={**kept, "TERM": "xterm", **names}, stdout=other, check=True)
+            subprocess.run([*EXPLAIN, *INPUTS, *OUTPUTS], env={**kept, "TERM": "xterm", **names}, stdout=other, check=True)
             os.close(other)
             text = b""
             with contextlib.suppress(OSError):
@@ -248,14 +242,14 @@ class Explain(InRoom):
 
     def test_many_hosts_are_summed(self) -> None:
         """Of more hosts than are kept the rarest are summed, so that all counts stay right; so are the destinations of one."""
-        refusals = run_story.Refusals()
-        frame = run_story.Frame(b"x", 1, 101, 1)
+        refusals = stories.Refusals()
+        frame = stories.Frame(b"x", 1, 101, 1)
 
         def refused(number: int, host: int, to: int) -> None:
             one = datagram(f"10.1.{host >> 8}.{host & 255} > 10.2.0.{to}", 17, b"")
-            refusals.take(run_frames.Event(number, 0, number, "NoBinding", frame, one, [], []))
+            refusals.take(frames.Event(number, 0, number, "NoBinding", frame, one, [], []))
 
-        with mock.patch.object(run_story, "HOSTS", 10):
+        with mock.patch.object(stories, "HOSTS", 10):
             for number in range(1, 1001):
                 refused(number, number % 500 if number % 2 else 0, number % 40)
             rows = refusals.rows()
@@ -266,7 +260,7 @@ class Explain(InRoom):
     def test_many_bindings(self) -> None:
         """Of bindings that ended those with the most uses are kept."""
         story = story_of(INPUTS[0], *INPUTS[1:], *OUTPUTS)
-        with mock.patch.object(run_story, "ENDED", 5):
+        with mock.patch.object(stories, "ENDED", 5):
             story._most = 0
             for number in range(100):
                 story._bound(bindings.Binding(0, number, 1, False, uses=number + 1))
@@ -281,15 +275,13 @@ class Damaged(InRoom):
     FORMS = ([], ["--json"], ["--events"], ["--pcapng", "PCAPNG"], ["--statics"])
 
     def asked(self, words: list[str]) -> tuple[object, str]:
-        """Status and output of the command, in this process."""
+        """Status, or the line that it ends with, and output of the command, in this process."""
         out = io.StringIO()
-        out.reconfigure = lambda **_: None
-        with mock.patch.object(sys, "argv", [EXPLAIN, *words]), contextlib.redirect_stdout(out), contextlib.redirect_stderr(out):
+        with mock.patch.object(sys, "argv", ["rendapil explain", *words]), contextlib.redirect_stdout(out), contextlib.redirect_stderr(out):
             try:
-                tell_run.main()
-                status: object = 0
+                status: object = explain.main()
             except SystemExit as end:
-                status = end.code
+                status = end.code if end.code != 1 else out.getvalue().splitlines()[-1]
         return status, out.getvalue()
 
     def test_octets_that_changed(self) -> None:
@@ -316,7 +308,7 @@ class Damaged(InRoom):
 
     def test_faults_of_the_tool(self) -> None:
         """What nobody foresaw is told in one line, with its place."""
-        with mock.patch.object(tell_run, "tell", lambda _: {}["x"]):
+        with mock.patch.object(explain, "tell", lambda *_: {}["x"]):
             status, _ = self.asked([*INPUTS, *OUTPUTS])
         self.assertRegex(str(status), r"^rendapil explain: a fault of this tool, and not of your files: KeyError at test_explain.py:\d+. Please report it$")
 
@@ -334,10 +326,10 @@ class Damaged(InRoom):
             b"1 left 1000000000 pass 999999999\n",
             b"".join(b"%d left 1000000000 V%d 0\n" % (number, number) for number in range(1, 100)),
         ):
-            status, text = said(EXPLAIN, *files[:5], self.write("other.txt", report))
+            status, text = said(*EXPLAIN, *files[:5], self.write("other.txt", report))
             self.assertEqual((status, text.count("\n"), text.isascii() and text[:-1].isprintable()), (1, 1, True), text[:300])
         cut = self.write("cut.txt", b"1 left 1000000000 pass 1\n2 right 20000")
-        self.assertIn("no last line: the run didn't come to the ends", said(EXPLAIN, *files[:5], cut)[1])
+        self.assertIn("no last line: the run didn't come to the ends", said(*EXPLAIN, *files[:5], cut)[1])
 
     def test_long_records(self) -> None:
         """A record that is said to have 4 GB takes no memory."""
@@ -345,13 +337,13 @@ class Damaged(InRoom):
         with open(files[1], "r+b") as file:
             file.seek(24 + 8)
             file.write(b"\xff\xff\xff\xff")
-        status, text = said("bash", "-c", 'ulimit -v 400000; exec "$@"', "bash", EXPLAIN, *files)
+        status, text = said("bash", "-c", 'ulimit -v 400000; exec "$@"', "bash", *EXPLAIN, *files)
         self.assertEqual((status, "has a record of 4294967295 bytes: none may have more than 262144" in text), (1, True), text)
 
     def test_names(self) -> None:
         """Control characters in the names of files are escaped."""
         name = f"{self.room}/a\x1b[2J\n\udcff"
-        status, text = said(EXPLAIN, name, *INPUTS[1:], *OUTPUTS)
+        status, text = said(*EXPLAIN, name, *INPUTS[1:], *OUTPUTS)
         self.assertEqual((status, text), (1, f"rendapil explain: {self.room}/a\\x1b[2J\\n\\udcff: No such file or directory\n"))
 
 
@@ -387,7 +379,7 @@ class Page(InRoom):
 
     def write_page(self, *files: str) -> Parsed:
         """The page of a run."""
-        self.assertEqual(said(EXPLAIN, "--html", self.page, *files), (0, ""))
+        self.assertEqual(said(*EXPLAIN, "--html", self.page, *files), (0, ""))
         with open(self.page, "rb") as file:
             self.assertNotRegex(file.read(), rb"[\x00-\x09\x0b-\x1f\x7f]")
         return Parsed(self.page)
@@ -434,10 +426,10 @@ class Page(InRoom):
         os.link(files[1], f"{self.room}/other-name")
         for way in ("--html", "--pcapng", "--settings"):
             for name in (files[1], f"{self.room}/other-name"):
-                self.assertEqual(said(EXPLAIN, way, name, *files), (1, f"rendapil explain: {name} is a file of the run, and would be overwritten\n"))
+                self.assertEqual(said(*EXPLAIN, way, name, *files), (1, f"rendapil explain: {name} is a file of the run, and would be overwritten\n"))
         self.write_page(*files)
         size = os.path.getsize(self.page)
-        self.assertEqual(said(EXPLAIN, "--html", self.page, *files[:5], CASE[5])[0], 1)
+        self.assertEqual(said(*EXPLAIN, "--html", self.page, *files[:5], CASE[5])[0], 1)
         self.assertEqual((os.path.getsize(self.page), [name for name in os.listdir(self.room) if name.startswith(".")]), (size, []))
 
     def test_secrets_are_hidden(self) -> None:
@@ -450,7 +442,7 @@ class Page(InRoom):
             self.assertIn(f"{word} (hidden)", page.text)
             self.assertIn("NOOP", page.text)
             self.assertNotRegex(page.text, "sec|ret\\b")
-            self.assertNotIn("secret", said(EXPLAIN, "--events", *files)[1])
+            self.assertNotIn("secret", said(*EXPLAIN, "--events", *files)[1])
 
     def test_filter_in_a_browser(self) -> None:
         """The words behind #q= leave the rows that have them all."""
@@ -471,7 +463,7 @@ class Lines(InRoom):
 
     def test_events(self) -> None:
         """A line for each frame, with a time that can be read."""
-        status, text = said(EXPLAIN, "--events", *INPUTS, *OUTPUTS)
+        status, text = said(*EXPLAIN, "--events", *INPUTS, *OUTPUTS)
         lines = [json.loads(line) for line in text.splitlines()]
         self.assertEqual((status, len(lines), lines[13]["event"]), (0, 53, 14))
         self.assertEqual(lines[13]["lines"], {"came": ["PORT 10,0,0,77,156,168"], "sent": ["PORT 172,16,9,2,156,168"]})
@@ -483,20 +475,20 @@ class Lines(InRoom):
         question = struct.pack(">HHHH", 4000, 53, 0, 0) + named(b"\x1b]0;owned\x07\n\"")
         answer = question[:-5] + b"x" + question[-4:]
         files = write_run(self.room, [*session(21, (HOSTILE + b"\r\n", b"\x1b" + HOSTILE + b"\r\n")), Happened(0, bindings.UDP, question, answer)])
-        status, text = said(EXPLAIN, "--events", *files)
+        status, text = said(*EXPLAIN, "--events", *files)
         self.assertEqual((status, [json.loads(line)["event"] for line in text.splitlines()]), (0, [1, 2, 3, 4, 5]))
         self.assertTrue(text.isascii() and all(line.isprintable() for line in text.splitlines()))
 
     @unittest.skipUnless(shutil.which("tshark"), "there is no tshark")
     def test_pcapng(self) -> None:
         """Wireshark reads all frames in the run's order, with their interfaces and comments, hostile ones too."""
-        self.assertEqual(said(EXPLAIN, "--pcapng", f"{self.room}/run.pcapng", *CASE), (0, ""))
+        self.assertEqual(said(*EXPLAIN, "--pcapng", f"{self.room}/run.pcapng", *CASE), (0, ""))
         rows = self.read_back()
         self.assertEqual([sum(row[0] == name for row in rows) for name in ("left-in", "right-in", "left-out", "right-out")], [1050, 1175, 1156, 1025])
         self.assertEqual(sorted(rows, key=lambda row: row[1]), rows)
         self.assertEqual(sum("NoBinding" in row[2] for row in rows), 2)
         files = write_run(self.room, session(21, (HOSTILE + b"\r\n", b"\x1b" + HOSTILE + b"\r\n")))
-        self.assertEqual(said(EXPLAIN, "--pcapng", f"{self.room}/run.pcapng", *files), (0, ""))
+        self.assertEqual(said(*EXPLAIN, "--pcapng", f"{self.room}/run.pcapng", *files), (0, ""))
         self.assertIn("\\x1b]0;owned\\x07 {{ 7 * 7 }} \\xff\\x9b", self.read_back()[-2][2].replace("\\\\", "\\"))
 
     def read_back(self) -> list[list[str]]:
@@ -512,12 +504,12 @@ class Lines(InRoom):
             self.skipTest("only a checkout has the crates")
         with open(source, encoding="utf-8") as file:
             names = set(re.findall(r"^    ([A-Z][A-Za-z0-9]+),", file.read(), re.MULTILINE))
-        self.assertEqual(set(run_frames.verdicts_of()), names)
+        self.assertEqual(set(frames.verdicts_of()), names)
 
     def test_parts(self) -> None:
         """Parts of a range join as it grows, and count each place once."""
-        parts = run_gathered.Parts()
+        parts = collected.Parts()
         for place in range(7, 5000, 3):
             parts.reach(place, lambda _: [0, 0]).counts["pass"] += 1
         self.assertEqual((parts.start, sum(part.counts["pass"] for part in parts.parts)), (7, len(range(7, 5000, 3))))
-        self.assertLessEqual(len(parts.parts), run_gathered.PARTS)
+        self.assertLessEqual(len(parts.parts), collected.PARTS)

@@ -3,10 +3,11 @@ import contextlib
 import io
 import re
 import unittest
+from importlib import import_module
 
-from testing import TOOLS, TOP, load, said
+from testing import TOOLS, TOP, said
 
-seconds = load("seconds")
+seconds = import_module("seconds")
 
 
 class Gate(unittest.TestCase):
@@ -15,7 +16,7 @@ class Gate(unittest.TestCase):
     def test_table(self) -> None:
         """The page has the table that the tool makes."""
         with open(f"{TOP}/docs/GATE.md", encoding="utf-8") as page:
-            self.assertIn(said(f"{TOOLS}/seconds", "--table")[1], page.read())
+            self.assertIn(said(f"{TOOLS}/seconds.py", "--table")[1], page.read())
 
     def test_crates(self) -> None:
         """Each crate has a row, in the order of crates.txt."""
@@ -25,7 +26,7 @@ class Gate(unittest.TestCase):
 
     def test_limit(self) -> None:
         """The gate fits. What is a minute too long, or was no whole run, doesn't."""
-        self.assertEqual(said(f"{TOOLS}/seconds", "--limit")[0], 0)
+        self.assertEqual(said(f"{TOOLS}/seconds.py", "--limit")[0], 0)
         rows = [["low", "9", "60", "0", "1", "30"], ["high", "9", "60", "90", "0", "0"]]
         for limit, first, is_within in ((4.0, "60", True), (3.9, "60", False), (4.0, "0", False)):
             rows[0][2] = first

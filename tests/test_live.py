@@ -10,8 +10,10 @@ import unittest
 from testing import TOP, datagram
 
 import aliases  # noqa: I001
-from bindings import ACK, FIN, LONG_TIMEOUT, SECOND, SYN, TCP, UDP
+from rendapil.bindings import ACK, FIN, LONG_TIMEOUT, SECOND, SYN, TCP, UDP
 from datagrams import tcp
+from records import RAW_IP
+from words import Journal
 
 FAR = "203.0.113.9"
 
@@ -79,6 +81,21 @@ static = []
         self.assertEqual([line.split(";")[-1] for line in others[:2]], [" 1 frames refused so far", " 3 frames refused so far"])
         self.assertEqual([line.split(" so far")[0] for line in others[2:]], ["pump: 1 frames not followed", "pump: 3 frames not followed"])
         self.assertEqual(self.watch.counts(), "0 of 9 addresses of the left pool and 10 of 10 addresses of the right pool taken, 3 frames not followed")
+
+    def test_lines_of_a_second(self) -> None:
+        """Of one second so many lines are written, and the others are counted, also at the end."""
+        for most, wanted in ((0, 9), (2, 2 + 1 + 1 + 2 + 1)):
+            out = io.StringIO()
+            journal = Journal(out, (RAW_IP, RAW_IP), True, most=most)
+            moments = [1] * 5 + [2] + [4] * 3
+            journal.expect(0, [datagram(f"10.0.0.9 > {FAR}", UDP, bytes(8))] * len(moments))
+            for number, second in enumerate(moments, 1):
+                journal.take(b"%d left %d PoolEmpty 0\n" % (number, second * SECOND))
+            journal.take(b"done events=9 passed=0 refused=9 to_left=0 to_right=0 pending=0\n")
+            lines = out.getvalue().splitlines()
+            self.assertEqual(len(lines), wanted + 1, lines)
+            self.assertEqual([line for line in lines if line.startswith("#")], ["# 3 more in that second", "# 1 more in that second"] if most else [])
+            self.assertEqual(journal.verdicts[b"PoolEmpty"], 9)
 
     def test_nobody_listens(self) -> None:
         """Where standard error has no reader, the gateway goes on."""

@@ -2,12 +2,15 @@
 import os
 import re
 import shutil
+import subprocess
 import tempfile
 import unittest
+from importlib.machinery import SourceFileLoader
+from importlib.util import module_from_spec, spec_from_loader
 
 from testing import INPUTS, MERGER, PROGRAM, TOP, said
 
-PACKAGERS = ("dpkg-buildpackage", "dh", "dh_python3", "lowdown")
+PACKAGERS = ("dpkg-buildpackage", "dh", "dh_python3")
 
 
 def below(folder: str) -> list[str]:
@@ -47,19 +50,46 @@ class Installed(unittest.TestCase):
         for name in ("rendapil.1", "rendapil.bash"):
             with open(f"{TOP}/packaging/{name}", encoding="utf-8") as file:
                 known = file.read().replace("Fl -", "--")
-            for command in ("check", "explain", "try"):
+            for command in ("check", "explain", "try", "plan", "compare", "export"):
                 options = set(re.findall(r"--[a-z][a-z-]+", said(f"{TOP}/rendapil", command, "--help")[1].partition("usage: ")[2].partition("\n\n")[0]))
                 self.assertEqual({one for one in options if one not in known}, set(), f"{name}: {command}")
+
+    @unittest.skipUnless(shutil.which("lowdown"), "there is no lowdown")
+    def test_settings_page(self) -> None:
+        """rendapil-settings(5) is what packaging/settings_page makes of docs/SETTINGS.md."""
+        module = module_from_spec(spec_from_loader("settings_page", SourceFileLoader("settings_page", f"{TOP}/packaging/settings_page")))
+        module.__loader__.exec_module(module)
+        with open(f"{TOP}/packaging/rendapil-settings.5", encoding="utf-8") as file:
+            self.assertEqual(module.page(), file.read())
+
+    @unittest.skipUnless(shutil.which("man"), "there is no man")
+    def test_pages_fit(self) -> None:
+        """Both manual pages fit a terminal of 80 columns."""
+        for name in ("rendapil.1", "rendapil-settings.5"):
+            words = ["env", "MANWIDTH=80", "man", "--warnings", "-l", f"{TOP}/packaging/{name}"]
+            done = subprocess.run(words, stdout=subprocess.PIPE, stderr=subprocess.PIPE, text=True, check=False)
+            wide = [line for line in done.stdout.splitlines() if len(line) > 80 and " = " not in line]  # lines of settings stay whole
+            self.assertEqual((done.stderr, wide), ("", []), name)
+
+    def test_completion(self) -> None:
+        """It works where the package bash-completion isn't there."""
+        for words, wanted in (("rendapil pl", "plan"), ("rendapil try --po", "--pool"), ("rendapil help exp", "explain export"), ("rendapil try --pool 1", "")):
+            place = len(words.split()) - 1
+            script = f"source {TOP}/packaging/rendapil.bash; compopt() {{ :; }}; COMP_WORDS=({words}); COMP_CWORD={place}; _rendapil; echo ${{COMPREPLY[@]}}"
+            self.assertEqual(said("bash", "--norc", "-c", script), (0, f"{wanted}\n"))
 
     def test_prefix(self) -> None:
         """It works there, and is taken away without a rest, what was there before included: that stays."""
         prefix = f"{self.room}/a prefix"
         os.makedirs(f"{prefix}/share/man/man1")
         before = below(prefix)
-        for _ in range(2):
-            self.assertEqual(said("env", f"PROGRAM={PROGRAM}", f"{TOP}/packaging/install", prefix), (0, ""))
+        for mask in ("077", "000"):
+            script = f'umask {mask}; PROGRAM="{PROGRAM}" exec "{TOP}/packaging/install" "$1"'
+            self.assertEqual(said("bash", "-c", script, "bash", prefix), (0, ""))
+            modes = {os.stat(path).st_mode & 0o777 for path in below(prefix) if path not in before and not os.path.islink(path)}
+            self.assertEqual(modes, {0o755, 0o644})
         self.works(f"{prefix}/bin/rendapil")
-        os.mkdir(f"{prefix}/share/rendapil/tools/__pycache__")
+        os.makedirs(f"{prefix}/share/rendapil/python/rendapil/__pycache__", exist_ok=True)
         self.assertEqual(said(f"{TOP}/packaging/install", "--remove", prefix), (0, ""))
         self.assertEqual(below(prefix), before)
         self.assertEqual(said(f"{TOP}/packaging/install", "--remove", prefix)[0], 1)

@@ -6,8 +6,12 @@ import subprocess
 import tempfile
 import time
 import unittest
+from pathlib import Path
+from unittest import mock
 
-from testing import INPUTS, OUTPUTS, RIGHT, TOOLS, TOP, said
+from testing import INPUTS, OUTPUTS, RIGHT, TOP, said
+
+from rendapil import program
 
 
 RT = """#!/bin/sh
@@ -29,38 +33,33 @@ exit ${{QUICK:-0}}
 
 
 class Script(unittest.TestCase):
-    """What rendapil says, with a stand-in for the program that says `$LINE` and ends with `$STATUS`, and with some for rt and tools/quick that leave
+    """What rendapil says, with a stand-in for the program that says `$LINE` and ends with `$STATUS`, and with some for rt and tools/quick.py that leave
     marks."""
 
     def setUp(self) -> None:
-        """A folder with the script and the stand-ins."""
+        """A folder with the command and the stand-ins."""
         room = tempfile.TemporaryDirectory()
         self.addCleanup(room.cleanup)
         self.room = room.name
         self.top = f"{self.room}/top"
+        self.prebuilt = f"{self.top}/prebuilt/x86_64-linux/gateway_program"
         self.program, self.source = f"{self.top}/crates/gateway_program/out/gateway_program", f"{self.top}/crates/gateway_program/src/main.rt"
-        for name in ("top/tools", "top/docs", "bin", "top/crates/gateway_program/out", "top/crates/gateway_program/src"):
+        for name in ("top/tools", "top/docs", "top/python", "bin", "top/crates/gateway_program/out", "top/crates/gateway_program/src"):
             os.makedirs(f"{self.room}/{name}")
-        for name in ("rendapil", "VERSION", "docs/GATE.md", "tools/proved_program"):
+        for name in ("rendapil", "VERSION", "docs/GATE.md"):
             shutil.copy(f"{TOP}/{name}", f"{self.top}/{name}")
-        for name in os.listdir(TOOLS):
-            if name not in ("quick", "proved_program"):
-                os.symlink(f"{TOOLS}/{name}", f"{self.top}/tools/{name}")
+        shutil.copytree(f"{TOP}/python/rendapil", f"{self.top}/python/rendapil", ignore=shutil.ignore_patterns("__pycache__"))
         self.write(f"{self.top}/crates.txt", "gateway_program: std\n")
         self.write(self.source, "fn main() {}\n")
         self.write(f"{self.room}/bin/rt", RT.format(room=self.room, top=self.top))
-        self.write(f"{self.top}/tools/quick", QUICK.format(room=self.room))
+        self.write(f"{self.top}/tools/quick.py", QUICK.format(room=self.room))
         self.write(self.program, '#!/bin/sh\n[ -z "$LINE" ] || echo "$LINE" >&2\necho "$*" >"$0.words"\nexit ${STATUS:-0}\n')
         self.note()
 
     def note(self) -> None:
         """Notes that the program is of the code that is there."""
-        text = self.shell('entries "$0" "$(code_of "$1")"', self.program, self.top)
+        text = f"program {program.sum_of(Path(self.program))}\ncode {program.digest_of(Path(self.top), '.rt')}\nkit kit 1\n"
         self.write(f"{self.program}.made", text)
-
-    def shell(self, text: str, *words: str) -> str:
-        """What a line of shell says that has the functions of tools/proved_program."""
-        return said("env", f"PATH={self.room}/bin:{os.environ['PATH']}", "bash", "-c", f". {TOOLS}/proved_program; {text}", *words)[1]
 
     def was_called(self, name: str) -> bool:
         """Whether a stand-in was called."""
@@ -156,10 +155,10 @@ class Script(unittest.TestCase):
     def test_whose_proof(self) -> None:
         """The version says what is known of the proof, and PROVED-PROGRAM is held against the program, the code and the kit."""
         self.assertIn("the code here isn't the code that was proved last", self.told("--version")[1])
-        keep = ("env", f"PATH={self.room}/bin:{os.environ['PATH']}", f"{self.top}/tools/proved_program")
+        keep = ("env", f"PATH={self.room}/bin:{os.environ['PATH']}", f"PYTHONPATH={self.top}/python", "python3", "-m", "rendapil.program")
         self.assertEqual(said(*keep, "--write", self.program), (0, ""))
         self.assertIn("proof: it is, byte for byte, the program that kit 1 proved from this code\n", self.told("--version")[1])
-        self.assertEqual(said(*keep, "--check", self.program), (0, "PROVED-PROGRAM names the program, the code and the kit\n"))
+        self.assertEqual(said(*keep, "--check", self.program), (0, "PROVED-PROGRAM names the program, the code and the kit, and prebuilt/ has the program\n"))
         self.assertEqual(said(*keep, "--check", self.source)[0], 1)
         os.remove(f"{self.program}.made")
         self.assertEqual(self.told(*self.run_words()), (0, ""))
@@ -167,9 +166,77 @@ class Script(unittest.TestCase):
         self.assertEqual(said(*keep, "--check", self.program)[0], 1)
         self.write(f"{self.room}/bin/rt", "#!/bin/sh\necho kit 2\n")
         self.assertEqual(said(*keep, "--check", self.program)[0], 0)
+        self.write(self.prebuilt, "another")
+        self.assertEqual(said(*keep, "--check", self.program)[0], 1)
         os.remove(f"{self.top}/PROVED-PROGRAM")
         self.assertEqual(said(*keep, "--check", self.program)[0], 1)
         self.assertEqual(said(*keep)[0], 2)
+
+    def come_with_checkout(self) -> None:
+        """The program comes with the checkout, and none was built."""
+        os.makedirs(os.path.dirname(self.prebuilt))
+        os.rename(self.program, self.prebuilt)
+        os.rename(f"{self.program}.made", f"{self.top}/PROVED-PROGRAM")
+
+    def test_prebuilt(self) -> None:
+        """The program that comes with the checkout runs at once, without rt."""
+        self.come_with_checkout()
+        os.remove(f"{self.room}/bin/rt")
+        self.assertEqual(self.told(*self.run_words(), PATH="/usr/bin:/bin"), (0, ""))
+        self.assertTrue(os.path.exists(f"{self.prebuilt}.words"))
+        self.assertEqual(self.told("--program", PATH="/usr/bin:/bin"), (0, f"{self.prebuilt}\n"))
+        self.assertIn("it is, byte for byte, the program that kit 1 proved from this code", self.told("--version", PATH="/usr/bin:/bin")[1])
+
+    @unittest.skipUnless(os.path.exists(f"{TOP}/crates.txt"), "what is installed builds nothing")
+    def test_prebuilt_of_other_code(self) -> None:
+        """It runs only where nothing can be built."""
+        self.come_with_checkout()
+        self.write(self.source, "fn main() { 1; }\n")
+        code, text = self.told(*self.run_words(), PATH="/usr/bin:/bin")
+        self.assertEqual((code, text.split(".")[0]), (0, "rendapil: the program that is there runs"))
+        self.assertEqual(self.told(*self.run_words())[0], 0)
+        self.assertTrue(self.was_called("quick"))
+
+    @unittest.skipUnless(os.path.exists(f"{TOP}/crates.txt"), "what is installed builds nothing")
+    def test_prebuilt_that_cannot_run(self) -> None:
+        """A file that is cut, foreign or not executable is told and never run: the program is built, or the command ends where it can't be."""
+        self.come_with_checkout()
+        whole = Path(self.prebuilt).read_bytes()
+        for octets, mode, why in ((whole[:-1], 0o755, "isn't the program that"), (b"\x7fELF", 0o755, "isn't the program that"), (whole, 0o644, "may not be run: chmod +x ")):
+            self.write(self.prebuilt, octets)
+            os.chmod(self.prebuilt, mode)
+            code, text = self.told(*self.run_words(), PATH="/usr/bin:/bin")
+            self.assertEqual((code, text.count("\n")), (70, 2), text)
+            self.assertIn(f"rendapil: prebuilt/x86_64-linux/gateway_program {why}", text)
+            code, text = self.told(*self.run_words())
+            self.assertEqual((code, text.count("\n")), (0, 4), text)
+            self.assertIn(". So the program is built\n", text)
+            shutil.rmtree(os.path.dirname(self.program))
+        self.assertFalse(os.path.exists(f"{self.prebuilt}.words"))
+
+    def test_systems(self) -> None:
+        """On which systems the program that comes with the checkout runs."""
+        linux = ("Linux", "", "", "", "x86_64")
+        for system, library, is_fine in (
+            (linux, "glibc 2.36", True),
+            (linux, "glibc 2.34", True),
+            (linux, "glibc 2.100", True),
+            (linux, "glibc 2.31", False),
+            (linux, "", False),
+            (("Linux", "", "", "", "aarch64"), "glibc 2.36", False),
+            (("Darwin", "", "", "", "x86_64"), "", False),
+        ):
+            with mock.patch("os.uname", lambda: os.uname_result(system)), mock.patch("os.confstr", lambda _: library):
+                self.assertEqual(not program.fault_of_system(Path("prebuilt")), is_fine, (system, library))
+
+    def test_build(self) -> None:
+        """It says whether it made the file that comes with the checkout."""
+        self.come_with_checkout()
+        code, text = self.told("build")
+        self.assertEqual((code, self.was_called("quick")), (0, True))
+        self.assertIn("rendapil: prebuilt/x86_64-linux/gateway_program is not the same file, byte for byte\n", text)
+        shutil.copy(self.program, self.prebuilt)
+        self.assertIn("rendapil: prebuilt/x86_64-linux/gateway_program is the same file, byte for byte\n", self.told("build")[1])
 
     def test_ways_to_call_it(self) -> None:
         """It finds its folder where a link to it is called, runs by sh, and says where it stands alone."""
@@ -192,14 +259,13 @@ class Script(unittest.TestCase):
 
     def test_old_python(self) -> None:
         """It is told."""
-        self.write(f"{self.room}/bin/python3", '#!/bin/sh\n[ "$1" = --version ] && echo Python 3.10.12\nexit 1\n')
-        for word in ("check", "explain", "try", "test"):
-            words = (word,) if word == "test" else (word, "x")
-            self.assertEqual(self.told(*words), (70, f"rendapil: {word} needs Python 3.11, and this is Python 3.10.12\n"))
+        old = "import sys, runpy; sys.version_info = (3, 10, 0); runpy.run_module('rendapil', run_name='__main__')"
+        status, text = said("env", f"PYTHONPATH={self.top}/python", "python3", "-c", old, "--help")
+        self.assertEqual((status, text.partition(", ")[0]), (70, "rendapil: this needs Python 3.11"))
 
     def test_check_holds_nothing_up(self) -> None:
         """A run begins at once, and ends within seconds, though the settings are looked at for ever."""
-        self.write(f"{self.room}/bin/python3", "#!/bin/sh\nexec sleep 60\n")
+        self.write(f"{self.top}/python/rendapil/check/settings.py", "import time\ntime.sleep(60)\n")
         begun = time.monotonic()
         self.assertEqual(self.told(*self.run_words(), status=9)[0], 9)
         self.assertLess(time.monotonic() - begun, 20)
@@ -261,6 +327,23 @@ class Script(unittest.TestCase):
             ({"left_in": "\x1b[2J"}, "open failed: left_in", 7, r"left_in, $'\E[2J': No such file or directory"),
         ):
             self.assertEqual(self.told(*self.run_words(**changed), line=line, status=status), (status, f"{line}\nrendapil: {more}\n"))
+
+    @unittest.skipUnless(os.geteuid() == 0, "only root mounts an overlay")
+    def test_one_file_of_an_overlay(self) -> None:
+        """An input by the merged folder is an output by the lower or the upper one, under another device number: it stays as it is."""
+        lower, upper, work, merged = (os.path.join(self.room, name) for name in ("lower", "upper", "work", "merged"))
+        for name in (lower, upper, work, merged):
+            os.mkdir(name)
+        for layer in (lower, upper):
+            self.write(f"{layer}/{os.path.basename(layer)}.pcap", b"kept")
+        options = f"lowerdir={lower},upperdir={upper},workdir={work}"
+        subprocess.run(["mount", "-t", "overlay", "overlay", "-o", options, merged], check=True)
+        self.addCleanup(subprocess.run, ["umount", merged], check=True)
+        for layer in (lower, upper):
+            name = f"{os.path.basename(layer)}.pcap"
+            code, text = self.told(*self.run_words(left_in=f"{merged}/{name}", left_out=f"{layer}/{name}"))
+            self.assertEqual((code, text.splitlines()[0]), (7, "open failed: left_out"), text)
+            self.assertEqual(Path(f"{layer}/{name}").read_bytes(), b"kept")
 
     def test_one_file_for_two_words(self) -> None:
         """An output that another word names too is refused, and what is there stays."""

@@ -1,11 +1,13 @@
-"""That docs/TRUSTED.md is current, and how tools/trusted reads definitions."""
+"""That docs/TRUSTED.md is current, and how tools/trusted.py reads definitions."""
 import tempfile
 import unittest
 from pathlib import Path
 
-from testing import TOP, load
+from importlib import import_module
 
-trusted = load("trusted")
+from testing import TOP
+
+trusted = import_module("trusted")
 
 DEFINITIONS = """-- A comment.
 use Rattle.below.specs.Words.{plain, ◌>>=◌, twice as double}
@@ -29,7 +31,7 @@ class Trusted(unittest.TestCase):
     def test_page_is_current(self) -> None:
         """The page is what the script writes."""
         if trusted.Page().text() != Path(f"{TOP}/docs/TRUSTED.md").read_text("utf-8"):
-            self.fail("docs/TRUSTED.md isn't current: tools/trusted >docs/TRUSTED.md")
+            self.fail("docs/TRUSTED.md isn't current: tools/trusted.py >docs/TRUSTED.md")
 
     def test_an_hour_suffices(self) -> None:
         """What decides is read in an hour, and is a part of what the statements rest on."""

@@ -12,21 +12,20 @@ import unittest
 from collections.abc import Callable
 from importlib.util import find_spec
 
-from testing import PROGRAM, TOOLS, capture, said
+from testing import PROGRAM, TOP, TRY, capture, said
 
-from any_capture import records
+from rendapil.any_capture import records
 from datagrams import fragments, icmp, tcp, udp  # testing says where it is
-from run_pcapng import block
+from rendapil.explain.pcapng import block
 
-TRY = f"{TOOLS}/try_capture"
-HAS_SCAPY = bool(find_spec("scapy")) or said("/usr/bin/python3", "-c", "import scapy, tomllib")[0] == 0
+HAS_SCAPY = bool(find_spec("scapy")) or said("/usr/bin/python3", "-I", "-c", "import scapy, tomllib")[0] == 0
 PYTHON = sys.executable if find_spec("scapy") else "/usr/bin/python3"
 REALMS = """
 import hashlib, sys
 from ipaddress import IPv4Network
 sys.path.insert(0, sys.argv[1])
-from any_capture import records
-from two_realms import TwoRealms, write_captures
+from rendapil.any_capture import records
+from rendapil.trying.two_realms import TwoRealms, write_captures
 sides = [f"{sys.argv[2]}/{name}" for name in ("new-left", "new-right")]
 for path in sys.argv[3:]:
     realms = TwoRealms([IPv4Network("10.1.0.0/16")], [], True)
@@ -110,7 +109,7 @@ class InRoom(unittest.TestCase):
 
     def tried(self, path: str, *words: str) -> tuple[int, str]:
         """Status and output of a try."""
-        status, text = said(TRY, path, *words, "--out", f"{self.room}/out", "--program", PROGRAM)
+        status, text = said(*TRY, path, *words, "--out", f"{self.room}/out", "--program", PROGRAM)
         self.assertTrue(text.isascii() and text.replace("\n", "").isprintable(), text)
         return status, text
 
@@ -141,7 +140,7 @@ class Try(InRoom):
     def test_forms(self) -> None:
         """A login with a PORT line passes whole, and gives the same inputs, whatever its frames stand in."""
         paths = [self.write(name, form(login())) for name, form in FORMS.items()]
-        lines = said(PYTHON, "-B", "-c", REALMS, TOOLS, self.room, *paths)[1].splitlines()
+        lines = said(PYTHON, "-B", "-c", REALMS, f"{TOP}/python", self.room, *paths)[1].splitlines()
         self.assertEqual(len(lines), len(FORMS), lines)
         for name, line in zip(FORMS, lines):
             self.assertEqual((name, line), (name, lines[0]))
@@ -157,19 +156,19 @@ class Try(InRoom):
     def test_what_to_type(self) -> None:
         """Without --left it lists who speaks with whom, and proposes a command that works, within one block of addresses too."""
         name = self.write("a capture's", capture(login()))
-        status, text = said(TRY, name)
+        status, text = said(*TRY, name)
         self.assertEqual((status, text.splitlines()[1]), (0, "       7  10.1.0.0/24 and 10.2.0.0/24"))
         self.assertIn("With these, 7 of 7 frames cross", text)
-        command = text.splitlines()[-1].replace("rendapil try", f"{TRY} --out {self.room}/out --program {PROGRAM}")
+        command = text.splitlines()[-1].replace("rendapil try", f"{TOP}/rendapil try --out {self.room}/out --program {PROGRAM}")
         self.assertIn("7  pass", said("bash", "-c", command)[1])
         near = [udp(f"10.1.0.{host}", 4000 + host, "10.1.0.1", 53 + host, b"x") for host in range(2, 9) for _ in range(3)]
-        text = said(TRY, self.write("near", capture(near)))[1]
+        text = said(*TRY, self.write("near", capture(near)))[1]
         self.assertIn("3  10.1.0.1 and 10.1.0.8", text)
         self.assertIn("With these, 21 of 21 frames cross", text)
 
     def test_through_a_pipe(self) -> None:
         """A capture may come from standard input."""
-        done = subprocess.run([TRY, "-", "--left", "10.1.0.0/16", "--out", f"{self.room}/out", "--program", PROGRAM], input=capture(login()), capture_output=True, check=False)
+        done = subprocess.run([*TRY, "-", "--left", "10.1.0.0/16", "--out", f"{self.room}/out", "--program", PROGRAM], input=capture(login()), capture_output=True, check=False)
         self.assertEqual((done.returncode, b"7  pass" in done.stdout), (0, True))
 
     def test_what_is_left_out(self) -> None:
@@ -229,7 +228,9 @@ class Try(InRoom):
         status, text = self.tried(name, "--left", "10.1.0.0/16", "--pool", "29")
         self.assertEqual((status, self.counts(text)), (0, {"pass": len(frames)}), text)
         with open(f"{self.room}/out/settings.toml", "rb") as file:
-            self.assertEqual([row["host"] for row in tomllib.load(file)["static"]], ["10.2.0.9"])
+            rows = tomllib.load(file)["static"]
+            self.assertEqual([row["host"] for row in rows], ["10.2.0.9"])
+            self.assertEqual([row["alias"].rpartition(".")[2] for row in rows], ["9"])
         status, text = self.tried(name, "--left", "10.1.0.0/16", "--pool", "20")
         self.assertEqual((status, self.counts(text)), (0, {"pass": 100, "PoolEmpty": 27, "NoBinding": 18}), text)
         self.assertIn("27 frames found their pool full: give a larger one by --pool", text)
@@ -241,7 +242,7 @@ class Try(InRoom):
     def test_the_capture_stays(self) -> None:
         """It isn't written over."""
         name = self.write("left.pcap", capture(login()))
-        status, text = said(TRY, name, "--left", "10.1.0.0/16", "--out", self.room, "--program", PROGRAM)
+        status, text = said(*TRY, name, "--left", "10.1.0.0/16", "--out", self.room, "--program", PROGRAM)
         self.assertEqual((status, text), (1, f"rendapil try: {name} is the capture itself, and would be overwritten: give another folder by --out\n"))
         with open(name, "rb") as file:
             self.assertEqual(file.read(), capture(login()))
@@ -260,12 +261,10 @@ class Try(InRoom):
             (b"\x28\xb5\x2f\xfd" + bytes(40), "is no capture that can be read: Not a supported capture file"),
         ):
             name = self.write("a\x1b[2J", octets)
-            status, text = said(TRY, name)
+            status, text = said(*TRY, name)
             self.assertEqual((status, text.count("\n"), text.startswith(f"rendapil try: {self.room}/a\\x1b[2J {line}")), (1, 1, True), text)
-        status, text = said("bash", "-c", 'ulimit -v 1000000; exec "$@"', "bash", TRY, self.write("long", long), "--left", "10.1.0.0/16", "--out", f"{self.room}/out", "--program", PROGRAM)
+        status, text = said("bash", "-c", 'ulimit -v 1000000; exec "$@"', "bash", *TRY, self.write("long", long), "--left", "10.1.0.0/16", "--out", f"{self.room}/out", "--program", PROGRAM)
         self.assertIn("no frame of", text)
         self.assertNotIn("Traceback", text)
-        self.assertEqual(said(TRY, f"{self.room}/absent"), (1, f"rendapil try: {self.room}/absent: No such file or directory\n"))
-        self.assertEqual(said(TRY, self.room), (1, f"rendapil try: {self.room}: Is a directory\n"))
-        old = "import sys, runpy; sys.version_info = (3, 10, 0); runpy.run_path(sys.argv[1], run_name='__main__')"
-        self.assertEqual(said(sys.executable, "-c", old, TRY), (1, "rendapil try: this needs Python 3.11\n"))
+        self.assertEqual(said(*TRY, f"{self.room}/absent"), (1, f"rendapil try: {self.room}/absent: No such file or directory\n"))
+        self.assertEqual(said(*TRY, self.room), (1, f"rendapil try: {self.room}: Is a directory\n"))

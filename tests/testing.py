@@ -4,16 +4,13 @@ import struct
 import subprocess
 import sys
 from collections.abc import Iterable
-from importlib.machinery import SourceFileLoader
-from importlib.util import module_from_spec, spec_from_loader
 from ipaddress import IPv4Address
-from types import ModuleType
 
 sys.dont_write_bytecode = True
 TESTS = os.path.dirname(os.path.realpath(__file__))
 TOP = os.path.dirname(TESTS)
 TOOLS = f"{TOP}/tools"
-BUILT = [f"{TOP}/crates/gateway_program/out/{name}" for name in ("gateway_program", "unproved")]
+BUILT = [f"{TOP}/{name}/gateway_program" for name in ("crates/gateway_program/out", "prebuilt/x86_64-linux")]
 PROGRAM = os.environ.get("PROGRAM") or next((path for path in BUILT if os.access(path, os.X_OK)), BUILT[0])
 MERGER, LIVE = f"{TOP}/examples/merger", f"{TESTS}/live_case"
 INPUTS = [f"{MERGER}/settings.toml", f"{MERGER}/north.pcap", f"{MERGER}/south.pcap"]
@@ -25,17 +22,8 @@ right = { pool_first = "172.16.9.1", pool_last = "172.16.9.254", link = "raw" }
 """
 """Settings without a fault."""
 
-sys.path[:0] = [TOOLS, f"{TOP}/examples/live", f"{TOP}/bench"]
-
-
-def load(name: str) -> ModuleType:
-    """A tool as a module, loaded once."""
-    if name in sys.modules:
-        return sys.modules[name]
-    module = module_from_spec(spec_from_loader(name, SourceFileLoader(name, f"{TOOLS}/{name}")))
-    sys.modules[name] = module
-    module.__loader__.exec_module(module)
-    return module
+sys.path[:0] = [f"{TOP}/python", f"{TOP}/examples/live", f"{TOP}/bench", TOOLS]
+CHECK, EXPLAIN, TRY, PLAN, COMPARE, EXPORT = ((f"{TOP}/rendapil", command) for command in ("check", "explain", "try", "plan", "compare", "export"))
 
 
 def said(*words: str) -> tuple[int, str]:

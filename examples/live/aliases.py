@@ -1,4 +1,4 @@
-"""The gateway's bindings, kept along by the table of tools/bindings.py: how full the pools are is told, and the aliases of hosts with connections
+"""The gateway's bindings, kept along by the table of rendapil.bindings: how full the pools are is told, and the aliases of hosts with connections
 are kept over a restart."""
 import contextlib
 import os
@@ -9,9 +9,10 @@ import tomllib
 from collections import deque
 from ipaddress import IPv4Address
 
-TOOLS = os.path.join(os.path.dirname(os.path.realpath(__file__)), "../../tools")
-sys.path.insert(0, TOOLS)
-from bindings import LONG_TIMEOUT, SECOND, SIDES, Binding, Bindings, Pool, datagram_of, statics  # noqa: E402
+TOP = os.path.join(os.path.dirname(os.path.realpath(__file__)), "../..")
+sys.path.insert(0, f"{TOP}/python")
+from rendapil.bindings import LONG_TIMEOUT, SECOND, SIDES, Binding, Bindings, Pool, datagram_of  # noqa: E402
+from rendapil.settings_text import statics  # noqa: E402
 
 FULL, AGAIN = 80, 70
 """How full a pool is when it is told, in percent, and below which level it is told anew."""
@@ -60,7 +61,7 @@ class Kept:
             self._both = tempfile.NamedTemporaryFile(prefix="settings-", suffix=".toml")
             self._both.write(own.read() + b"\n" + tables)
             self._both.flush()
-        words = [sys.executable, f"{TOOLS}/check_settings", "--brief", self._both.name]
+        words = [f"{TOP}/rendapil", "check", "--brief", self._both.name]
         try:
             check = subprocess.run(words, stdout=subprocess.PIPE, text=True, check=False, timeout=PATIENCE)
             fault = check.stdout.replace(f"{self._both.name}: ", "").split("\n")[0] if check.returncode else ""

@@ -22,6 +22,9 @@ from words import Journal
 PIPE = 1 << 20
 """How many octets a pipe is to hold, and the most that are read at once."""
 
+FEW_LINES = 20
+"""How many lines of a second the report of refused frames has: a flood of them would make it grow by 67 GB a day."""
+
 BY_SIGNAL = 128
 """Where the program was ended by a signal, the pump's status is the signal's number behind this."""
 
@@ -234,7 +237,8 @@ def words_of_command() -> argparse.Namespace:
     add("--mtu", type=int, help="set the mtu of both devices")
     add("--queue", type=int, help="set the length of their queues, in frames")
     add("--report", metavar="FILE", help="append the report there, each line with its frame in words (- is standard output)")
-    add("--refused", action="store_true", help="only lines of frames that don't pass")
+    add("--refused", action="store_true", help="only lines of frames that don't pass, and of one second at most as many as --lines says")
+    add("--lines", type=int, metavar="N", help="write at most N lines of a second to the report, and count the others (20 with --refused, else no limit; 0 is none)")
     add("--save", metavar="FOLDER", help="keep what the program reads and writes")
     add("--pools", action="store_true", help="tell on standard error when a pool is 80 %% full, and PoolEmpty")
     add("--statics", metavar="FILE", help="the same, and keep there the aliases that hosts got by use, for the next start")
@@ -264,7 +268,8 @@ def open_journal(words: argparse.Namespace, links: tuple[int, int], watch: Watch
     file = None
     if words.report:
         file = sys.stdout if words.report == "-" else open(words.report, "a", encoding="ascii")
-    return Journal(file, links, words.refused, watch)
+    most = words.lines if words.lines is not None else FEW_LINES if words.refused else 0
+    return Journal(file, links, words.refused, watch, most)
 
 
 def open_devices(words: argparse.Namespace) -> Iterator[Device]:

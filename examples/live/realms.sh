@@ -4,7 +4,7 @@
 
 here="$(cd "$(dirname "${BASH_SOURCE[0]}")" && pwd)"
 top="$(cd "$here/../.." && pwd)"
-program="${PROGRAM:-$top/crates/gateway_program/out/gateway_program}"
+program="${PROGRAM:-}"
 left="left-$$" right="right-$$"
 work="$(mktemp -d)"
 started=() made=() pump=
@@ -50,8 +50,7 @@ need() {
 make_realms() {
     local realm
     [ "$(id -u)" = 0 ] || fail "this needs root: it makes network namespaces"
-    # Any run builds the program first, where it isn't there.
-    [ -n "${PROGRAM:-}" ] || "$top/rendapil" make 1 1 /dev/null || fail "the program could not be built"
+    [ -n "$program" ] || program="$("$top/rendapil" --program)" || fail "the program could not be built"
     [ -x "$program" ] || fail "$program isn't there"
     for realm in "$left" "$right"; do
         ip netns add "$realm"

@@ -10,9 +10,9 @@ start_servers() {
     start named ip netns exec "$right" named -g -c "$work/named.conf"
     start snmpd ip netns exec "$right" env MIBS= snmpd -f -Lo -C -c "$work/snmpd.conf" -p "$work/snmpd.pid"
     start traps ip netns exec "$right" env MIBS= snmptrapd -f -Lo -n -C -c "$work/traps.conf" -p "$work/traps.pid" udp:10.0.0.7:162
-    start pages ip netns exec "$right" python3 -u -m http.server --bind 10.0.0.5 --directory "$files" 8080
-    start pages77 ip netns exec "$right" python3 -u -m http.server --bind 10.0.0.77 --directory "$files" 8080
-    start pages_left ip netns exec "$left" python3 -u -m http.server --bind 10.0.0.5 --directory "$files" 8080
+    start pages ip netns exec "$right" python3 -P -u -m http.server --bind 10.0.0.5 --directory "$files" 8080
+    start pages77 ip netns exec "$right" python3 -P -u -m http.server --bind 10.0.0.77 --directory "$files" 8080
+    start pages_left ip netns exec "$left" python3 -P -u -m http.server --bind 10.0.0.5 --directory "$files" 8080
     mkdir -p "/etc/netns/$left"
     printf 'nameserver 192.168.200.53\nsearch example\noptions timeout:2 attempts:2\n' >"/etc/netns/$left/resolv.conf"
     # Port 21 is 15 in hexadecimal, and 0A the state of a socket that listens.

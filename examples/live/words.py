@@ -11,6 +11,7 @@ from records import ETHERNET
 _ETHERNET_HEAD = 14
 _FLAGS = "FSRPAUEC"
 _FTP = 21
+_SECOND = 10**9
 
 
 def address(octets: bytes) -> str:
@@ -53,14 +54,16 @@ def segment_in_words(segment: bytes) -> str:
 
 class Journal:
     """The report as it comes from the program: its verdicts are counted, and each event is told to the watch and written with its frame in words,
-    where these are wanted. Heartbeats are left out."""
+    where these are wanted. Heartbeats are left out. `most` is how many lines of one second are written: the others are counted. 0 is no limit."""
 
-    def __init__(self, file: TextIO | None, links: tuple[int, int], only_refused: bool, watch: Watch | None = None) -> None:
+    def __init__(self, file: TextIO | None, links: tuple[int, int], only_refused: bool, watch: Watch | None = None, most: int = 0) -> None:
         self.verdicts: Counter[bytes] = Counter()
         self._file = file
         self._links = links
         self._only_refused = only_refused
         self._watch = watch
+        self._most = most
+        self._second = self._lines = self._left_out = 0
         self._frames: tuple[deque[bytes | None], deque[bytes | None]] = (deque(), deque())
         self._rest = b""
 
@@ -99,7 +102,7 @@ class Journal:
         """What is written for a line of the report, if anything."""
         words = split(line)
         if words[0] == b"done":
-            return line.decode("ascii") + "\n"
+            return self._told_left_out() + line.decode("ascii") + "\n"
         side = 0 if words[1] == b"left" else 1
         frame = self._frames[side].popleft()
         if frame is None:
@@ -109,8 +112,25 @@ class Journal:
             self._watch.line(side, int(words[2]), words[3].decode("ascii"), frame, int(words[4]))
         if not self._file or self._only_refused and words[3] == b"pass":
             return ""
+        told = self._turned(int(words[2]) // _SECOND)
+        if self._most and self._lines == self._most:
+            self._left_out += 1
+            return told
+        self._lines += 1
         number, name, moment, verdict, count = (word.decode("ascii") for word in words)
-        return f"{number} {name} {int(moment) / 1e9:.6f} {verdict} {count}  {frame_in_words(frame, self._links[side])}\n"
+        return f"{told}{number} {name} {int(moment) / 1e9:.6f} {verdict} {count}  {frame_in_words(frame, self._links[side])}\n"
+
+    def _turned(self, second: int) -> str:
+        """Begins to count anew in each second, and says what the one before had no room for."""
+        if second == self._second:
+            return ""
+        told, self._second, self._lines = self._told_left_out(), second, 0
+        return told
+
+    def _told_left_out(self) -> str:
+        """A line on those that were left out, if any were."""
+        count, self._left_out = self._left_out, 0
+        return f"# {count} more in that second\n" if count else ""
 
 
 def split(line: bytes) -> list[bytes]:

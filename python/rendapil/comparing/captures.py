@@ -1,0 +1,315 @@
+"""The captures of a real device's two links, as they come: each direction by itself, or both in one file, as pcap or pcapng. They become four captures
+of bare datagrams, what came in and what went out on each side, of which the first two are inputs for a run."""
+import gzip
+import os
+import struct
+from array import array
+from collections import Counter
+from collections.abc import Iterable, Iterator
+from dataclasses import dataclass, field
+from io import BufferedReader, FileIO
+from typing import BinaryIO, cast
+
+from rendapil.any_capture import IN, LOCAL, OUT, SLL, SLL2, UNKNOWN, Record, datagram_in, with_length
+from rendapil.bindings import SECOND, SIDES, TCP, UDP, Blocks, pool_of
+from rendapil.files import ETHERNET, FORMS, RECORD, bare_head, record_head, shown
+from rendapil.packet import ICMP, Packet, header_sum
+
+FOUR = struct.Struct(">4H")
+"""The addresses of a datagram."""
+
+LOOKED_AT, JOIN_ROOM = 100_000, 1024
+"""The most frames by which the device's MAC addresses are found, and the most datagrams that are joined at once."""
+
+
+# Files.
+
+
+def opened(path: str) -> BinaryIO:
+    """A capture, unpacked if it is packed by gzip."""
+    file = BufferedReader(FileIO(path), 1 << 18)
+    is_packed = file.peek(2)[:2] == b"\x1f\x8b"
+    return cast(BinaryIO, gzip.open(file)) if is_packed else file
+
+
+def records(path: str) -> Iterator[Record]:
+    """The frames of a capture, up to the last one that is whole."""
+    with opened(path) as file:
+        head = file.read(24)
+        if head[:4] == b"\x0a\x0d\x0d\x0a":
+            yield from of_pcapng(file, head)
+        elif len(head) == 24 and head[:4] in FORMS:
+            yield from of_pcap(file, head)
+        else:
+            raise ValueError(f"{shown(path)} is no capture")
+
+
+def of_pcap(file: BinaryIO, head: bytes) -> Iterator[Record]:
+    """The frames of a pcap file."""
+    order, unit = FORMS[head[:4]]
+    link, heads, read, make = struct.unpack(order + "I", head[20:])[0] & 0xFFFF, struct.Struct(order + "4I"), file.read, Record._make
+    while len(record := read(16)) == 16:
+        seconds, fraction, size, length = heads.unpack(record)
+        if size > RECORD or len(octets := read(size)) < size:
+            return
+        interface, way = cooked(link, octets) if link in (SLL, SLL2) else ("", UNKNOWN)
+        yield make((seconds * SECOND + fraction * unit, link, octets, length, interface, way))
+
+
+def cooked(link: int, octets: bytes) -> tuple[str, int]:
+    """Interface and way of a frame that `tcpdump -i any` has recorded."""
+    kind = octets[10:11] if link == SLL2 else octets[1:2]
+    interface = str(int.from_bytes(octets[4:8])) if link == SLL2 else ""
+    return interface, OUT if kind == b"\x04" else IN if kind == b"\0" else LOCAL
+
+
+def options(body: bytes, order: str) -> Iterator[tuple[int, bytes]]:
+    """The options at the end of a block of pcapng."""
+    at = 0
+    while at + 4 <= len(body):
+        code, size = struct.unpack_from(order + "HH", body, at)
+        if not code:
+            return
+        yield code, body[at + 4 : at + 4 + size]
+        at += 4 + size + -size % 4
+
+
+def of_pcapng(file: BinaryIO, head: bytes) -> Iterator[Record]:
+    """The frames of a pcapng file, with the names of their interfaces and their ways, where it has them."""
+    interfaces: list[tuple[int, str, int]] = []
+    order, waiting = "<", head
+    while True:
+        start = waiting + file.read(12 - len(waiting)) if len(waiting) < 12 else waiting
+        if len(start) < 12:
+            return
+        kind = start[:4]
+        if kind == b"\x0a\x0d\x0d\x0a":
+            order, interfaces = "<" if start[8:12] == b"\x4d\x3c\x2b\x1a" else ">", []
+        size = struct.unpack_from(order + "I", start, 4)[0]
+        if size < 12 or size > RECORD * 2:
+            return
+        block = start + file.read(size - len(start)) if size > len(start) else start[:size]
+        waiting = start[size:]
+        if len(block) < size:
+            return
+        number, body = struct.unpack_from(order + "I", block)[0], block[8:-4]
+        if number == 1:
+            said = dict(options(body[8:], order))
+            power = said.get(9, b"\x06")[0]
+            unit = 2 ** (power & 127) if power & 128 else 10**power
+            interfaces.append((struct.unpack_from(order + "H", body)[0], said.get(2, b"").decode(errors="replace") or str(len(interfaces)), unit))
+        elif number == 6:
+            place, high, low, kept, length = struct.unpack_from(order + "5I", body)
+            link, name, unit = interfaces[place]
+            flags = dict(options(body[20 + kept + -kept % 4 :], order)).get(2, b"")
+            octets = body[20 : 20 + kept]
+            way = {1: IN, 2: OUT}.get(struct.unpack(order + "I", flags)[0] & 3, UNKNOWN) if len(flags) == 4 else UNKNOWN
+            if link in (SLL, SLL2):
+                index, way = cooked(link, octets)
+                name = index or name
+            yield Record(((high << 32) + low) * SECOND // unit, link, octets, length, name, way)
+
+
+# Which way a frame goes.
+
+
+@dataclass
+class Realm:
+    """What the settings say of a side's addresses, and the MAC addresses of the device on its link."""
+
+    side: int
+    first: int
+    last: int
+    same: Blocks
+    macs: set[bytes] = field(default_factory=set)
+
+    def is_far(self, octets: bytes) -> bool:
+        """Whether an address is an alias of the other realm's hosts here."""
+        return self.first <= int.from_bytes(octets) <= self.last
+
+    def way(self, record: Record, datagram: bytes) -> int:
+        """The way of a frame: by the capture, by the device's MAC addresses, or by the addresses of the datagram."""
+        if record.way != UNKNOWN:
+            return record.way
+        if record.link == ETHERNET and self.macs:
+            return OUT if record.octets[6:12] in self.macs else IN if record.octets[:6] in self.macs else LOCAL
+        return self.way_by_addresses(datagram)
+
+    def way_by_addresses(self, datagram: bytes) -> int:
+        """The same by the addresses alone."""
+        source, destination = datagram[12:16], datagram[16:20]
+        if self.is_far(destination):
+            return IN
+        if self.is_far(source):
+            return OUT
+        ends = int.from_bytes(source) in self.same, int.from_bytes(destination) in self.same
+        return {(True, False): OUT, (False, True): IN}.get(ends, LOCAL)
+
+    def find_macs(self, frames: Iterable[Record]) -> None:
+        """Finds the device's MAC addresses: frames from aliases have them as source, and frames to aliases as destination."""
+        seen: Counter[bytes] = Counter()
+        for _, record in zip(range(LOOKED_AT), frames):
+            datagram = datagram_in(record.link, record.octets) if record.link == ETHERNET else b""
+            if datagram:
+                source, destination = self.is_far(datagram[12:16]), self.is_far(datagram[16:20])
+                seen[record.octets[6:12] if source else record.octets[:6]] += source != destination
+        most = max(seen.values(), default=0)
+        self.macs = {mac for mac, count in seen.items() if count and count * 20 >= most and not mac[0] & 1}
+
+
+# Bare datagrams.
+
+
+def bare(record: Record) -> tuple[bytes, str]:
+    """The datagram of a frame without what its link put behind it, and why it can't be compared, if it can't."""
+    datagram = datagram_in(record.link, record.octets)
+    if not datagram:
+        return b"", "no IPv4 (ARP, IPv6)"
+    datagram = with_length(datagram)
+    total = int.from_bytes(datagram[2:4])
+    if total < (datagram[0] & 15) * 4:
+        return b"", "a header that contradicts itself"
+    if len(datagram) < total:
+        return b"", "cut by the capture: record with tcpdump -s 0"
+    return datagram[:total], ""
+
+
+def is_left_to_card(datagram: bytes) -> bool:
+    """Whether a network card fills in the checksum: what stands there is that of the pseudo header, as offloading leaves it."""
+    protocol, head = datagram[9], (datagram[0] & 15) * 4
+    at = {TCP: head + 16, UDP: head + 6}.get(protocol, 0)
+    if not at or len(datagram) < at + 2 or datagram[6] & 0x3F or datagram[7]:
+        return datagram[10:12] == b"\0\0"
+    start = sum(FOUR.unpack_from(datagram, 12)) + protocol
+    rest = (datagram[at] << 8) + datagram[at + 1] - start
+    return not rest % 0xFFFF or not (rest - len(datagram) + head) % 0xFFFF or datagram[10:12] == b"\0\0"
+
+
+class Joiner:
+    """Joins fragments, so that devices may cut datagrams as they like."""
+
+    def __init__(self) -> None:
+        self._parts: dict[bytes, tuple[dict[int, bytes], list[int], bytearray]] = {}
+
+    def take(self, datagram: bytes) -> bytes:
+        """The datagram that a fragment makes whole, if it does."""
+        key, head = datagram[4:6] + datagram[9:10] + datagram[12:20], (datagram[0] & 15) * 4
+        place = int.from_bytes(datagram[6:8])
+        if key not in self._parts and len(self._parts) >= JOIN_ROOM:
+            del self._parts[next(iter(self._parts))]
+        parts, end, first = self._parts.setdefault(key, ({}, [], bytearray()))
+        parts[(place & 0x1FFF) * 8] = datagram[head:]
+        if not place & 0x2000:
+            end[:] = [(place & 0x1FFF) * 8 + len(datagram) - head]
+        if not place & 0x1FFF:
+            first[:] = datagram[:head]
+        whole = b"".join(parts[at] for at in sorted(parts))
+        if not end or not first or len(whole) < end[0]:
+            return b""
+        del self._parts[key]
+        first[2:4], first[6:8] = (len(first) + len(whole)).to_bytes(2), bytes([first[6] & 0x40, 0])
+        first[10:12] = header_sum(bytes(first)).to_bytes(2)
+        return bytes(first) + whole
+
+
+@dataclass
+class Bare:
+    """A capture of bare datagrams with the numbers that their frames had in the file of the user."""
+
+    path: str
+    name: str
+    numbers: array = field(default_factory=lambda: array("I"))
+    first: int = 0
+    last: int = 0
+
+    def __post_init__(self) -> None:
+        self._file = open(self.path, "wb", 1 << 18)
+        self._file.write(bare_head())
+
+    def put(self, moment: int, number: int, datagram: bytes) -> None:
+        """Writes a datagram."""
+        self._file.write(record_head(moment, len(datagram), len(datagram)) + datagram)
+        self.numbers.append(number)
+        self.first, self.last = self.first or moment, max(self.last, moment)
+
+    def close(self) -> None:
+        """Writes the rest."""
+        self._file.close()
+
+
+class Links:
+    """The four captures of bare datagrams: `came` and `went`, each by side."""
+
+    def __init__(self, settings: dict, room: str, macs: tuple[list[bytes], list[bytes]]) -> None:
+        same = Blocks(settings.get("same", []))
+        self.realms = [Realm(side, *pool_of(settings, SIDES[side]), same, set(macs[side])) for side in (0, 1)]
+        self.left_out: Counter[str] = Counter()
+        self.mended: Counter[str] = Counter()
+        self.came, self.went = ([Bare(os.path.join(room, f"{side}-{way}.pcap"), "") for side in SIDES] for way in ("in", "device-out"))
+
+    def read_way(self, side: int, way: int, path: str) -> None:
+        """Takes a file in which all frames go one way."""
+        self._take(side, path, records(path), way)
+
+    def read_both(self, side: int, path: str, interface: str = "") -> None:
+        """Takes a file, or an interface of it, in which frames go both ways."""
+        realm = self.realms[side]
+        if not realm.macs:
+            realm.find_macs(one for one in records(path) if not interface or one.interface == interface)
+        self._take(side, path, (one for one in records(path)), UNKNOWN, interface)
+
+    def _take(self, side: int, path: str, frames: Iterable[Record], only: int, interface: str = "") -> None:
+        """Takes the frames of a file: of one way, or of both with `only` unknown."""
+        realm, joiner = self.realms[side], Joiner()
+        files = self.came[side], self.went[side]
+        for file, way in zip(files, (IN, OUT)):
+            file.name = path if only in (UNKNOWN, way) else file.name
+        for number, record in enumerate(frames, 1):
+            if interface and record.interface != interface:
+                continue
+            datagram, why = bare(record)
+            if why:
+                self.left_out[f"{why}, on the {SIDES[side]}"] += 1
+                continue
+            way = only if only != UNKNOWN else realm.way(record, datagram)
+            if way == LOCAL:
+                self.left_out[f"neither to nor from the device, on the {SIDES[side]}"] += 1
+                continue
+            if is_left_to_card(datagram):
+                packet = Packet(datagram)
+                self.mended[f"{SIDES[side]} {'out' if way else 'in'}"] += packet.mend()
+                datagram = bytes(packet.octets)
+            if way == OUT and (datagram[6] & 0x3F or datagram[7]) and not (datagram := joiner.take(datagram)):
+                continue
+            files[way].put(record.moment, number, datagram)
+
+    def close(self) -> None:
+        """Writes the rest of all four."""
+        for file in self.came + self.went:
+            file.close()
+
+
+def shifted(file: Bare, by: int) -> None:
+    """Moves all stamps of a capture."""
+    with open(file.path, "r+b") as octets:
+        whole = bytearray(octets.read())
+        at = 24
+        while at + 16 <= len(whole):
+            seconds, fraction, size = struct.unpack_from("<3I", whole, at)
+            struct.pack_into("<2I", whole, at, *divmod(seconds * SECOND + fraction + by, SECOND))
+            at += 16 + size
+        octets.seek(0)
+        octets.write(whole)
+    file.first, file.last = file.first + by, file.last + by
+
+
+def ports(datagram: bytes) -> bytes:
+    """The ports of TCP or UDP, or what an echo is called by."""
+    head = (datagram[0] & 15) * 4
+    return (
+        datagram[head : head + 4]
+        if datagram[9] in (TCP, UDP)
+        else datagram[head : head + 2] + datagram[head + 4 : head + 8]
+        if datagram[9] == ICMP
+        else b""
+    )

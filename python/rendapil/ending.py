@@ -1,0 +1,35 @@
+"""How a tool ends: with a status, or with one line that says why not."""
+import os
+import sys
+from collections.abc import Callable
+from typing import NoReturn
+
+from rendapil.files import escape_output, shown, unforeseen
+from rendapil.sayings import Fault
+
+
+def fail(name: str, text: str, status: int = 1) -> NoReturn:
+    """Ends a tool with a line, in place of how far the reading is."""
+    print(("\033[K" if sys.stderr.isatty() else "") + f"rendapil {name}: {text}", file=sys.stderr)
+    sys.exit(status)
+
+
+def ended(name: str, work: Callable[[], int], status: int = 1, file: str = "standard output") -> int:
+    """Does a tool's work, and gives its status. Where that fails, it ends with a line and the other status. `file` is what a fault of the system
+    may mean that names none."""
+    escape_output()
+    try:
+        done = work()
+        sys.stdout.flush()
+        return done
+    except (Fault, ValueError) as error:
+        fail(name, shown(str(error)), status)
+    except OSError as error:
+        sys.stdout = open(os.devnull, "w")  # nothing more goes there
+        fail(name, f"{shown(str(error.filename or file))}: {error.strerror or shown(str(error))}", status)
+    except KeyboardInterrupt:
+        sys.exit(130)
+    except MemoryError:
+        fail(name, "out of memory", status)
+    except Exception as error:  # noqa: BLE001: no traceback has what stands in a capture
+        fail(name, unforeseen(error), status)

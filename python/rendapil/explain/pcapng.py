@@ -1,0 +1,65 @@
+"""All four captures of a run as one, for Wireshark: in the run's order, each frame behind the one that it became, with comments. What is written
+here of the format (draft-ietf-opsawg-pcapng) are three blocks: a section's head, an interface and a frame."""
+import struct
+from typing import BinaryIO
+
+from rendapil.bindings import SIDES
+from rendapil.files import Frame
+from rendapil.frames import Event, Verdict, compared, spoken, ways
+
+INTERFACES = [f"{side}-{way}" for side in SIDES for way in ("in", "out")]
+COMMENT, NAME, PROGRAM, UNIT = 1, 2, 4, 9
+"""Codes of options: a comment, an interface's name, the program that wrote the file, the unit of stamps as a power of ten."""
+
+
+def block(kind: int, body: bytes, *options: tuple[int, bytes]) -> bytes:
+    """A block with its options."""
+    body += bytes(-len(body) % 4)
+    for code, text in options:
+        body += struct.pack("<HH", code, len(text)) + text + bytes(-len(text) % 4)
+    size = len(body) + 16
+    return struct.pack("<II", kind, size) + body + struct.pack("<HHI", 0, 0, size)
+
+
+class Commented:
+    """Writes a capture in the format pcapng with the frames of a run. `links` are those of left-in, left-out, right-in and right-out."""
+
+    def __init__(self, file: BinaryIO, links: list[int], verdicts: dict[str, Verdict]) -> None:
+        self._verdicts = verdicts
+        self._file = file
+        self._file.write(block(0x0A0D0D0A, struct.pack("<IHHq", 0x1A2B3C4D, 1, 0, -1), (PROGRAM, b"rendapil explain")))
+        for name, link in zip(INTERFACES, links):
+            self._file.write(block(1, struct.pack("<HHI", link, 0, 0), (NAME, name.encode()), (UNIT, b"\x09")))
+
+    def _put(self, interface: int, moment: int, frame: Frame, comment: str) -> None:
+        """Writes a frame."""
+        head = struct.pack("<5I", interface, moment >> 32, moment & 0xFFFFFFFF, len(frame.octets), max(frame.length, len(frame.octets)))
+        self._file.write(block(6, head + frame.octets, (COMMENT, comment.encode())))
+
+    def take(self, event: Event) -> None:
+        """Writes an event: its frame, and those that were sent for it."""
+        if event.is_heartbeat:
+            return
+        self._put(2 * event.side, event.moment, event.frame, self._said(event))
+        for number, frame in enumerate(event.sent, 1):
+            of = f" ({number} of {len(event.sent)})" if len(event.sent) > 1 else ""
+            came = f": it came as {ways(event.datagram)}" if event.datagram else ""
+            self._put(2 * (1 - event.side) + 1, event.moment, frame, f"event {event.number} {SIDES[event.side]}, sent{of}{came}")
+
+    def _said(self, event: Event) -> str:
+        """What became of a frame."""
+        front = f"event {event.number} {SIDES[event.side]} {event.verdict}: "
+        if event.verdict == "held":
+            return front + "a fragment that waits for the others of its packet"
+        if event.verdict != "pass":
+            known = self._verdicts.get(event.verdict)
+            return front + (f"{known.means}. What to do: {known.todo}." if known else "refused.")
+        if not event.images:
+            return front + "nothing went out yet"
+        lines, images = spoken(event.datagram), [line for image in event.images for line in spoken(image)]
+        changed = []
+        if lines != images:
+            for mark, ones, others in (("-", lines, images), ("+", images, lines)):
+                rows = [pieces for pieces in compared(ones, others) if any(piece.changed for piece in pieces)]
+                changed += [f"\n{mark} " + "".join(piece.text for piece in pieces) for pieces in rows[:20]]
+        return front + f"{ways(event.datagram)} became {ways(event.images[0])}" + "".join(changed)

@@ -1,0 +1,143 @@
+"""The files of a run, read in room that doesn't grow with them, whatever stands in them: captures record by record, a report line by line."""
+import os
+import re
+import struct
+import sys
+import traceback
+from collections.abc import Iterator
+from io import TextIOWrapper
+from typing import BinaryIO, NamedTuple, Self
+
+ETHERNET, RAW_IP = 1, 101
+FORMS = {b"\xd4\xc3\xb2\xa1": ("<", 1000), b"\x4d\x3c\xb2\xa1": ("<", 1), b"\xa1\xb2\xc3\xd4": (">", 1000), b"\xa1\xb2\x3c\x4d": (">", 1)}
+"""By the first four bytes of a capture its byte order, and how many nanoseconds the unit of its stamps has."""
+
+RECORD, LINE, SENT, VERDICTS = 262_144, 400, 1 << 26, 64
+"""The most bytes of a record, of a line of the report and of all frames that are sent for one, and the most verdicts of a report."""
+
+MOMENTS = 10**9 << 32
+"""Where the moments end that a capture's stamps can tell: in the year 2106."""
+
+TEXT = re.compile(rb"(\d{1,19}) (left|right) (\d{1,19}) ([A-Z][A-Za-z0-9]{1,30}|pass|held) (\d{1,9})\n")
+JSON = re.compile(
+    rb'\{"event":(\d{1,19}),"frames":(\d{1,9}),"moment":(\d{1,19}),"side":"(left|right)","verdict":"([A-Z][A-Za-z0-9]{1,30}|pass|held)"\}\n'
+)
+DONE = re.compile(rb'(?:done( [a-z_]+=\d{1,19})+|\{"done":true(,"[a-z_]+":\d{1,19})+\})\n')
+SIDES = {b"left": 0, b"right": 1}
+
+
+def shown(name: str) -> str:
+    """A file's name, or another text from outside, with all that isn't printable escaped."""
+    return "".join(
+        one if one.isprintable() else one.encode("utf-8", "backslashreplace").decode() if "\ud800" <= one <= "\udfff" else repr(one)[1:-1]
+        for one in name
+    )
+
+
+def escape_output() -> None:
+    """Lets standard output take every name, those that are no text with escapes."""
+    if isinstance(sys.stdout, TextIOWrapper):
+        sys.stdout.reconfigure(errors="backslashreplace")
+
+
+def unforeseen(error: Exception) -> str:
+    """What is told of a fault of a tool itself."""
+    *_, place = traceback.extract_tb(error.__traceback__)
+    return (
+        f"a fault of this tool, and not of your files: {type(error).__name__} at {os.path.basename(place.filename)}:{place.lineno}. Please report it"
+    )
+
+
+HEAD, RECORD_HEAD = struct.Struct("<IHHiIII"), struct.Struct("<IIII")
+"""The heads of a capture and of its records, as they are written here."""
+
+
+def bare_head() -> bytes:
+    """The head of a capture of bare datagrams with stamps in nanoseconds."""
+    return HEAD.pack(0xA1B23C4D, 2, 4, 0, 0, RECORD, RAW_IP)
+
+
+def record_head(moment: int, size: int, length: int) -> bytes:
+    """The head of a record of such a capture: how many bytes follow, and how many the frame had on the wire."""
+    return RECORD_HEAD.pack(*divmod(moment, 1_000_000_000), size, length)
+
+
+class Frame(NamedTuple):
+    """A record of a capture: its bytes, its stamp in nanoseconds, the capture's link, and the length that the frame had on the wire."""
+
+    octets: bytes
+    moment: int
+    link: int
+    length: int
+
+
+class Line(NamedTuple):
+    """A line of a report: the number of a frame, its side, moment and verdict, and how many frames were sent for it."""
+
+    number: int
+    side: int
+    moment: int
+    verdict: str
+    frames: int
+
+
+class Capture:
+    """The frames of a capture as a run reads and writes them. ValueError where the file is none, or a record can't be one."""
+
+    def __init__(self, path: str) -> None:
+        self.path = path
+        self._file = open(path, "rb", 1 << 18)
+        head = self._file.read(24)
+        self._order, self._unit = FORMS.get(head[:4], ("", 0))
+        self.link: int = struct.unpack(self._order + "I", head[20:])[0] if len(head) == 24 and self._order else -1
+        if self.link not in (ETHERNET, RAW_IP):
+            self._file.close()
+            what = "is empty, and" if not head else f"has link type {self.link}, and" if self.link >= 0 else ""
+            raise ValueError(f"{shown(path)} {what} is no capture that a run reads or writes".replace("  ", " "))
+
+    def __enter__(self) -> Self:
+        return self
+
+    def __exit__(self, *_: object) -> None:
+        self._file.close()
+
+    def frames(self) -> Iterator[Frame]:
+        """The frames, up to the last one that is whole."""
+        read, link, unit, heads, make = self._file.read, self.link, self._unit, struct.Struct(self._order + "4I"), Frame._make
+        while len(record := read(16)) == 16:
+            seconds, fraction, size, length = heads.unpack(record)
+            if size > RECORD:
+                raise ValueError(f"{shown(self.path)} has a record of {size} bytes: none may have more than {RECORD}")
+            octets = read(size)
+            if len(octets) < size:
+                return
+            yield make((octets, seconds * 1_000_000_000 + fraction * unit, link, length))
+
+
+def line_of(text: bytes) -> Line | None:
+    """A line of a report that tells of a frame."""
+    if found := TEXT.fullmatch(text):
+        number, side, moment, verdict, frames = found.groups()
+    elif found := JSON.fullmatch(text):
+        number, frames, moment, side, verdict = found.groups()
+    else:
+        return None
+    line = Line._make((int(number), SIDES[side], int(moment), verdict.decode(), int(frames)))
+    return line if line.moment < MOMENTS else None
+
+
+def lines(file: BinaryIO, path: str) -> Iterator[Line | str]:
+    """The lines of a report, and its last one as text if it is there. A line that was cut at the end isn't told."""
+    place = 0
+    verdicts: set[str] = set()
+    while text := file.readline(LINE):
+        place += 1
+        line = line_of(text)
+        if line and line.number == place and (line.verdict in verdicts or len(verdicts) < VERDICTS):
+            verdicts.add(line.verdict)
+            yield line
+        elif DONE.fullmatch(text):
+            yield text.decode().strip()
+            return
+        elif text.endswith(b"\n") or len(text) == LINE:
+            raise ValueError(f"{shown(path)}: line {place} is none that a run writes. Is it a report?")

@@ -1,0 +1,107 @@
+"""IPv4 datagrams that are changed in place, and their checksums."""
+import struct
+
+from rendapil.bindings import TCP, UDP
+
+ICMP = 1
+ICMP_ERRORS = (3, 4, 11, 12)
+SUM_AT = {ICMP: 2, TCP: 16, UDP: 6}
+HEADER = struct.Struct(">BxHxxHxBxxII")
+
+
+def is_host(address: int) -> bool:
+    """Whether it is the address of one host."""
+    return address >> 24 not in (0, 127) and address >> 24 < 224
+
+
+def is_private(address: int) -> bool:
+    """Whether an address is of a private block, or of one for carriers."""
+    return address >> 24 == 10 or address >> 20 == 0xAC1 or address >> 16 == 0xC0A8 or address >> 22 == 0x191
+
+
+def total_of(octets: bytes) -> int:
+    """The ones' complement sum of octets."""
+    number = int.from_bytes(octets + bytes(len(octets) % 2))
+    return number % 0xFFFF or (0xFFFF if number else 0)
+
+
+def header_sum(head: bytes) -> int:
+    """The checksum of an IPv4 header, whatever stands in its place."""
+    return ~total_of(head[:10] + bytes(2) + head[12:]) & 0xFFFF
+
+
+def adjusted(old_sum: int, old: bytes, new: bytes) -> int:
+    """A checksum after a change (RFC 1624): a wrong one stays as wrong as it was."""
+    return ~total_of(struct.pack(">HHH", ~old_sum & 0xFFFF, ~total_of(old) & 0xFFFF, total_of(new))) & 0xFFFF
+
+
+class Packet:
+    """An IPv4 datagram that is changed in place, its sums with it. What is known of its header is that of its beginning."""
+
+    __slots__ = ("destination", "flags", "head", "octets", "protocol", "source", "total")
+
+    def __init__(self, octets: bytes) -> None:
+        self.octets = bytearray(octets)
+        size, self.total, self.flags, self.protocol, self.source, self.destination = HEADER.unpack_from(octets)
+        self.head = (size & 15) * 4
+
+    def number(self, at: int, size: int = 2) -> int:
+        """A number in it."""
+        return int.from_bytes(self.octets[at : at + size])
+
+    @property
+    def is_fragment(self) -> bool:
+        """Whether it is a part of a datagram."""
+        return bool(self.flags & 0x3FFF)
+
+    @property
+    def is_whole(self) -> bool:
+        """Whether all of it was kept."""
+        return len(self.octets) >= self.total >= self.head
+
+    @property
+    def is_icmp_error(self) -> bool:
+        """Whether it is an ICMP error that holds the beginning of a datagram."""
+        octets, head = self.octets, self.head
+        is_error = self.protocol == ICMP and not self.flags & 0x1FFF and len(octets) >= head + 28
+        return is_error and octets[head] in ICMP_ERRORS and octets[head + 8] >> 4 == 4
+
+    def _sum_place(self) -> int | None:
+        """Where its transport's checksum is, if it has one."""
+        at = SUM_AT.get(self.protocol)
+        if at is None or self.flags & 0x1FFF or len(self.octets) < self.head + at + 2:
+            return None
+        if self.protocol == UDP and not self.number(self.head + at):
+            return None
+        return self.head + at
+
+    def put(self, at: int, new: bytes) -> None:
+        """Writes octets at an even place, and adjusts the sums that count them."""
+        old = bytes(self.octets[at : at + len(new)])
+        self.octets[at : at + len(new)] = new
+        if at < self.head:
+            self.octets[10:12] = adjusted(self.number(10), old, new).to_bytes(2)
+        place = self._sum_place()
+        if place is not None and (at >= self.head or self.protocol != ICMP):
+            fixed = adjusted(self.number(place), old, new)
+            self.octets[place : place + 2] = (fixed or (0xFFFF if self.protocol == UDP else 0)).to_bytes(2)
+
+    def mend(self) -> bool:
+        """Computes the sums of a whole datagram anew, as a sender without offloading would. Where only its first fragment is there, and the
+        header's sum is wrong, or UDP's is that of the pseudo header, which offloading leaves, it has none then, as UDP allows. Says whether one was wrong.
+        """
+        before = bytes(self.octets)
+        self.octets[10:12] = header_sum(bytes(self.octets[: self.head])).to_bytes(2)
+        place = self._sum_place()
+        if place is not None and self.is_whole and not self.is_fragment:
+            self.octets[place : place + 2] = bytes(2)
+            payload = bytes(self.octets[self.head : self.total])
+            pseudo = b"" if self.protocol == ICMP else self.octets[12:20] + struct.pack(">HH", self.protocol, len(payload))
+            total = ~total_of(bytes(pseudo) + payload) & 0xFFFF
+            self.octets[place : place + 2] = (total or (0xFFFF if self.protocol == UDP else 0)).to_bytes(2)
+        elif place is not None and self.protocol == UDP:  # the first fragment: the others aren't there to be counted
+            length = self.octets[self.head + 4 : self.head + 6]
+            is_offloaded = self.number(place) == total_of(self.octets[12:20] + struct.pack(">H", UDP) + length)
+            if is_offloaded or before[10:12] != self.octets[10:12]:
+                self.octets[place : place + 2] = bytes(2)
+        return before != bytes(self.octets)
