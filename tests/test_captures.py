@@ -93,8 +93,9 @@ class Captures(unittest.TestCase):
                 subprocess.run(["bash", "-c", command.replace("NEW", new)], check=False, stdout=subprocess.DEVNULL, stderr=subprocess.DEVNULL)
                 self.assertEqual(self.lines(new, self.back), [], name)
         for name, octets, line in (
-            ("gz", b"\x1f\x8b" + bytes(30), f"is packed by gzip: Magic. Unpack it: gunzip -c {self.room}/gz >NEW"),
-            ("ng", b"\x0a\x0d\x0d\x0a" + bytes(30), f"is a pcapng file: Magic. Convert it: editcap -F pcap {self.room}/ng NEW"),
+            ("gz", b"\x1f\x8b" + bytes(30), "is damaged: what gzip packed is damaged: Unknown compression method"),
+            ("ng", b"\x0a\x0d\x0d\x0a" + bytes(30), "is damaged: a block says that it has 0 bytes"),
+            ("xz", b"\xfd\x37\x7a\x58" + bytes(30), f"is packed by xz: Magic. Unpack it: xz -dc {self.room}/xz >NEW"),
             ("text", b"left = 1\n", "is no capture: Magic. Are the words in their order?"),
             ("empty", b"", "is empty: NoHead"),
             ("wlan", head + struct.pack("<I", 105) + frames, "has link type 105: Link. Capture on an Ethernet interface or a tun device"),

@@ -305,17 +305,18 @@ class Script(unittest.TestCase):
     def test_reasons(self) -> None:
         """What stands behind the program's line."""
         pcap = struct.pack("<IHHiII", 0xA1B2C3D4, 2, 4, 0, 0, 65535)
-        ng, packed = self.write(f"{self.room}/ng", b"\x0a\x0d\x0d\x0a" + bytes(20)), self.write(f"{self.room}/gz", b"\x1f\x8b" + bytes(22))
+        packed = self.write(f"{self.room}/xz", b"\xfd\x37\x7a\x58" + bytes(20))
         empty = self.write(f"{self.room}/empty", b"")
-        cooked = self.write(f"{self.room}/cooked", pcap + struct.pack("<I", 113))
+        cooked, torn = (self.write(f"{self.room}/link{link}", pcap + struct.pack("<I", link) + bytes(9)) for link in (113, 1))
+        folder = f"{self.room}/folder"
+        os.mkdir(folder)
         magic, link = "capture right: Magic at 0", "capture right: Link at 0"
         for changed, line, status, more in (
             ({"left_in": "absent"}, "open failed: left_in", 7, "left_in, absent: No such file or directory"),
-            ({"left_in": "/"}, "read failed: left_in", 5, "left_in, /: Is a directory"),
+            ({"left_in": folder}, "read failed: left_in", 5, f"left_in, {folder}: it is a folder without captures"),
             ({"left_out": "absent/x"}, "open failed: left_out", 7, "left_out, absent/x: No such file or directory"),
             ({"report": "/"}, "open failed: report", 7, "report, /: Is a directory. The outputs in front of it are empty now"),
-            ({"right_in": ng}, magic, 4, f"right_in, {ng}: it is a pcapng file: editcap -F pcap {ng} NEW"),
-            ({"right_in": packed}, magic, 4, f"right_in, {packed}: it is packed by gzip: gunzip -c {packed} >NEW"),
+            ({"right_in": packed}, magic, 4, f"right_in, {packed}: it is packed by xz: xz -dc {packed} >NEW"),
             ({"right_in": INPUTS[0]}, magic, 4, f"right_in, {INPUTS[0]}: it is text. Are the words in their order?"),
             ({"right_in": cooked}, link, 4, f"right_in, {cooked}: it has link type 113, as tcpdump -i any gives it: editcap -F pcap -L -C 16 -T rawip {cooked} NEW"),
             ({"report": "/dev/full"}, "write failed: report", 6, "report, /dev/full: it takes no more. All outputs are cut"),
@@ -323,7 +324,7 @@ class Script(unittest.TestCase):
             ({"left_in": "-n"}, "usage: run", 2, "left_in: write ./-n for a file"),
             ({"left_in": "a\udcff"}, "usage: run", 2, r"left_in: the name $'a\377' isn't UTF-8"),
             ({"left_in": empty}, "capture left: NoHead at 0", 4, f"left_in, {empty}: it is empty"),
-            ({"left_in": ng}, "capture left: Torn at 24", 4, f"left_in, {ng}: it ends within a record. The frames before that went out, and the report has no last line"),
+            ({"left_in": torn}, "capture left: Torn at 24", 4, f"left_in, {torn}: it ends within a record. The frames before that went out, and the report has no last line"),
             ({"left_in": "\x1b[2J"}, "open failed: left_in", 7, r"left_in, $'\E[2J': No such file or directory"),
         ):
             self.assertEqual(self.told(*self.run_words(**changed), line=line, status=status), (status, f"{line}\nrendapil: {more}\n"))

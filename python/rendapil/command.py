@@ -29,7 +29,7 @@ MORE = (
     else "See rendapil(1), and rendapil-settings(5) for the settings. /usr/share/doc/rendapil has an example."
 )
 
-HELP = f"""usage: rendapil [--quiet] COMMAND WORDS
+HELP = f"""usage: rendapil [--quiet] [--untag] COMMAND WORDS
   run {WORDS_OF_RUN}
   run SETTINGS LEFT_IN RIGHT_IN                   translates two captures, or shows the report alone
   audit SETTINGS LEFT_IN RIGHT_IN LEFT_GIVEN RIGHT_GIVEN REPORT_GIVEN REPORT
@@ -51,8 +51,9 @@ USAGES = {
     "run": f"""usage: rendapil run {WORDS_OF_RUN}
        rendapil run SETTINGS LEFT_IN RIGHT_IN
 Reads what each realm sends to the gateway, LEFT_IN and RIGHT_IN. Writes what the gateway sends to each, LEFT_OUT and RIGHT_OUT, and a line for
-each frame to REPORT. Outputs are overwritten. With three words it writes the report to standard output, and nothing else. Captures are pcap files
-of Ethernet frames or bare IPv4 packets. One input may be - for standard input, and one output - for standard output.
+each frame to REPORT. Outputs are overwritten. With three words it writes the report to standard output, and nothing else. Captures have Ethernet
+frames or bare IPv4 packets, as pcap or pcapng, packed by gzip or not; a folder stands for all captures in it, in the order of their first frames.
+--untag takes VLAN tags off. One input may be - for standard input, and one output - for standard output.
 Status: 0 done, 3 the settings have a fault, 4 a capture has one, 5 to 7 a file can't be read, written or opened, 8 out of memory.""",
     "audit": """usage: rendapil audit SETTINGS LEFT_IN RIGHT_IN LEFT_GIVEN RIGHT_GIVEN REPORT_GIVEN REPORT
 Says whether a gateway may have written LEFT_GIVEN, RIGHT_GIVEN and REPORT_GIVEN for these inputs: lawful (status 0), or unlawful with the first
@@ -138,12 +139,16 @@ def refused(words: list[str]) -> int:
     return USAGE
 
 
-def without_quiet(words: list[str]) -> list[str]:
-    """The words without --quiet, in front of the command or behind it."""
+def without_options(words: list[str]) -> list[str]:
+    """The words without --quiet and --untag, in front of the command or behind it."""
     for place, word in enumerate(words[:2]):
         if word in ("--quiet", "-q"):
             sayings.QUIET = True
-            return words[:place] + words[place + 1 :]
+        elif word == "--untag":
+            os.environ["RENDAPIL_UNTAG"] = "1"  # for all that this command starts
+        else:
+            continue
+        return without_options(words[:place] + words[place + 1 :])
     return words
 
 
@@ -217,7 +222,7 @@ def main(words: list[str]) -> int:
     open_streams()
     signal.signal(signal.SIGPIPE, signal.SIG_DFL)
     try:
-        return done(without_quiet(words))
+        return done(without_options(words))
     except Stop as stop:
         return stop.tell()
     except KeyboardInterrupt:

@@ -86,7 +86,9 @@ class Capture:
 
     def __init__(self, path: str) -> None:
         self.path = path
-        self._file = open(path, "rb", 1 << 18)
+        from rendapil.inputs import opened
+
+        self._file = opened(path)
         head = self._file.read(24)
         self._order, self._unit = FORMS.get(head[:4], ("", 0))
         self.link: int = struct.unpack(self._order + "I", head[20:])[0] if len(head) == 24 and self._order else -1

@@ -5,12 +5,16 @@ import os
 import stat
 from collections.abc import Sequence
 from dataclasses import dataclass, field
-from typing import IO, NoReturn
+from typing import IO, TYPE_CHECKING, NoReturn
 
-from rendapil.sayings import Stop, say, shown
+from rendapil.sayings import Fault, Stop, say, shown
 
-NOT_OPENED = 7
-"""The status where an output can't be opened."""
+if TYPE_CHECKING:
+    from rendapil.inputs import Feeder
+
+CAPTURES = ("left_in", "right_in", "left_given", "right_given")
+NOT_READ, NOT_OPENED = 5, 7
+"""The statuses where an input can't be read, and where an output can't be opened."""
 
 
 @dataclass
@@ -20,12 +24,21 @@ class Words:
     words: list[str]
     slots: tuple[str, ...]
     outputs: int
+    given: list[str] = field(default_factory=list)
+    """The words as the user gave them."""
+
     created: list[str] = field(default_factory=list)
     held: list[IO[bytes]] = field(default_factory=list)
     """The outputs that weren't there, and those that are locked."""
 
     inherited: list[int] = field(default_factory=list)
     """The numbers of files that the program gets open."""
+
+    feeders: "dict[int, Feeder]" = field(default_factory=dict)
+    """By their place the inputs that a process of its own writes."""
+
+    def __post_init__(self) -> None:
+        self.given = list(self.words)
 
     @property
     def command(self) -> str:
@@ -59,11 +72,29 @@ class Words:
                     self.inherited.append(number)
                     self.words[place] = f"/dev/fd/{number}"
 
+    def feed(self) -> None:
+        """Has captures that the program can't read written into pipes: pcapng, what gzip packed, and folders."""
+        from rendapil.inputs import Feeder, is_fed
+
+        for place in range(2, self.outputs):
+            if self.slots[place] in CAPTURES and is_fed(self.words[place]):
+                try:
+                    self.feeders[place] = feeder = Feeder(self.words[place])
+                except Fault as error:
+                    slot = self.slots[place]
+                    raise Stop(NOT_READ, f"{slot}, {shown(self.words[place])}: {error}", line=f"read failed: {slot}") from None
+                self.words[place] = f"/dev/fd/{feeder.pipe.fileno()}"
+                self.inherited.append(feeder.pipe.fileno())
+
+    def end_feeders(self) -> dict[str, str]:
+        """Ends them. By slots, what each said of damage."""
+        return {self.slots[place]: said for place, feeder in self.feeders.items() if (said := feeder.end())}
+
     def refuse_one_file_twice(self) -> None:
-        """Ends where an output is the file of another word: it would be emptied, and the run could end well."""
+        """Ends where an output is the file of another word, or one of its folder: it would be emptied, and the run could end well."""
         for place in range(self.outputs, len(self.words)):
             for other in range(1, place):
-                if is_one_file(self.words[place], self.words[other]):
+                if any(is_one_file(self.words[place], name) for name in names_of(self.words[other])):
                     self.refuse(place, f"{self.slots[place]} and {self.slots[other]} are one file, {shown(self.words[place])}")
 
     def lock_outputs(self) -> None:
@@ -108,6 +139,11 @@ class Words:
                 say(f"{slot}: write {shown('./' + word)} for a file")
             elif not is_utf8(word):
                 say(f"{slot}: the name {shown(word)} isn't UTF-8")
+
+
+def names_of(word: str) -> list[str]:
+    """A file, or those of a folder."""
+    return [entry.path for entry in os.scandir(word)] if os.path.isdir(word) else [word]
 
 
 def is_utf8(word: str) -> bool:

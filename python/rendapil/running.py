@@ -11,7 +11,8 @@ from rendapil import sayings
 from rendapil.build import have_program
 from rendapil.outputs import Words
 from rendapil.progress import wait_and_tell
-from rendapil.reasons import tell_by, tell_end, tell_more
+from rendapil.reasons import slot_of, tell_by, tell_end, tell_more
+from rendapil.sayings import say, shown
 
 SLOTS = {
     "run": (("settings", "left_in", "right_in", "left_out", "right_out", "report"), 4),
@@ -56,8 +57,10 @@ def called(program: Path, words: Words) -> tuple[int, str]:
 def run_program(program: Path, words: Words) -> int:
     """Runs the program, and says what its line leaves open. Ends as it ended."""
     signal.signal(signal.SIGINT, lambda *_: None)  # the program ends, and then this command
+    given = words.given
     checked = None if words.command == "make" else warnings(words.words[1])
     status, line = called(program, words)
+    damaged = words.end_feeders()
     if checked:
         checked.join()
     if status != 0:
@@ -68,6 +71,8 @@ def run_program(program: Path, words: Words) -> int:
         print(line, file=sys.stderr, flush=True)
     if status == USAGE:
         words.tell_faults()
+    elif slot_of(line) in damaged:
+        say(f"{slot_of(line)}, {shown(given[words.slots.index(slot_of(line))])}: {damaged[slot_of(line)]}")
     elif status in FAULTS:
         tell_more(line, words)
     elif not (sayings.QUIET and status <= 128):
@@ -87,5 +92,6 @@ def run(given: list[str]) -> int:
         words.name_streams()
         words.name_by_number()
         words.refuse_one_file_twice()
+        words.feed()
     words.lock_outputs()
     return run_program(program, words)

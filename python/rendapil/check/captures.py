@@ -13,6 +13,7 @@ from itertools import islice
 from typing import TYPE_CHECKING
 
 from rendapil.any_capture import IPV4, TAGS
+from rendapil.inputs import Fed, opened
 from rendapil.files import ETHERNET, FORMS, RECORD, shown
 from rendapil.kinds import by_head
 from rendapil.packet import SUM_AT, Packet, is_host, is_private
@@ -53,7 +54,7 @@ def look_at(path: str, side: str, realms: "Realms", most: int) -> Looked:
     """Looks at the first frames of a capture. `realms` are the settings."""
     scan, digest = Scan(meaning_by(realms), True), hashlib.sha256()
     looked = Looked(scan)
-    with open(path, "rb") as file:
+    with opened(path) as file:
         head = file.read(24)
         if fault := unreadable(head, shlex.quote(path)):
             return Looked(fault=fault)
@@ -78,6 +79,8 @@ def look_at(path: str, side: str, realms: "Realms", most: int) -> Looked:
                 datagram = octets[14:] if link == ETHERNET else octets
                 scan.take(looked.total, 0 if side == "left" else 1, datagram, [datagram])
     looked.digest = digest.digest()
+    if isinstance(file, Fed) and file.damage:
+        looked.fault = f"is damaged: {file.damage}"
     return looked
 
 
@@ -159,6 +162,8 @@ def told(paths: list[str], realms: "Realms", most: int = LOOKED_AT) -> Iterator[
             found.append(look_at(path, side, realms, most))
         except OSError as error:
             found.append(Looked(fault=f"can't be read: {error.strerror}"))
+        except ValueError as error:  # a folder that has other files
+            found.append(Looked(fault=f"can't be read: {str(error).partition(': ')[2]}"))
     one, other = found
     if is_one_capture(paths, found):
         yield f"{shown(paths[0])} and {shown(paths[1])} are one capture: each has to have what the hosts of its own realm sent. Make both: rendapil try {shown(shlex.quote(paths[0]))}"

@@ -1,113 +1,23 @@
 """The captures of a real device's two links, as they come: each direction by itself, or both in one file, as pcap or pcapng. They become four captures
 of bare datagrams, what came in and what went out on each side, of which the first two are inputs for a run."""
-import gzip
 import os
 import struct
 from array import array
 from collections import Counter
-from collections.abc import Iterable, Iterator
+from collections.abc import Iterable
 from dataclasses import dataclass, field
-from io import BufferedReader, FileIO
-from typing import BinaryIO, cast
 
-from rendapil.any_capture import IN, LOCAL, OUT, SLL, SLL2, UNKNOWN, Record, datagram_in, with_length
+from rendapil.any_capture import IN, LOCAL, OUT, UNKNOWN, Record, datagram_in, with_length
 from rendapil.bindings import SECOND, SIDES, TCP, UDP, Blocks, pool_of
-from rendapil.files import ETHERNET, FORMS, RECORD, bare_head, record_head, shown
+from rendapil.files import ETHERNET, bare_head, record_head
 from rendapil.packet import ICMP, Packet, header_sum
+from rendapil.readers import records
 
 FOUR = struct.Struct(">4H")
 """The addresses of a datagram."""
 
 LOOKED_AT, JOIN_ROOM = 100_000, 1024
 """The most frames by which the device's MAC addresses are found, and the most datagrams that are joined at once."""
-
-
-# Files.
-
-
-def opened(path: str) -> BinaryIO:
-    """A capture, unpacked if it is packed by gzip."""
-    file = BufferedReader(FileIO(path), 1 << 18)
-    is_packed = file.peek(2)[:2] == b"\x1f\x8b"
-    return cast(BinaryIO, gzip.open(file)) if is_packed else file
-
-
-def records(path: str) -> Iterator[Record]:
-    """The frames of a capture, up to the last one that is whole."""
-    with opened(path) as file:
-        head = file.read(24)
-        if head[:4] == b"\x0a\x0d\x0d\x0a":
-            yield from of_pcapng(file, head)
-        elif len(head) == 24 and head[:4] in FORMS:
-            yield from of_pcap(file, head)
-        else:
-            raise ValueError(f"{shown(path)} is no capture")
-
-
-def of_pcap(file: BinaryIO, head: bytes) -> Iterator[Record]:
-    """The frames of a pcap file."""
-    order, unit = FORMS[head[:4]]
-    link, heads, read, make = struct.unpack(order + "I", head[20:])[0] & 0xFFFF, struct.Struct(order + "4I"), file.read, Record._make
-    while len(record := read(16)) == 16:
-        seconds, fraction, size, length = heads.unpack(record)
-        if size > RECORD or len(octets := read(size)) < size:
-            return
-        interface, way = cooked(link, octets) if link in (SLL, SLL2) else ("", UNKNOWN)
-        yield make((seconds * SECOND + fraction * unit, link, octets, length, interface, way))
-
-
-def cooked(link: int, octets: bytes) -> tuple[str, int]:
-    """Interface and way of a frame that `tcpdump -i any` has recorded."""
-    kind = octets[10:11] if link == SLL2 else octets[1:2]
-    interface = str(int.from_bytes(octets[4:8])) if link == SLL2 else ""
-    return interface, OUT if kind == b"\x04" else IN if kind == b"\0" else LOCAL
-
-
-def options(body: bytes, order: str) -> Iterator[tuple[int, bytes]]:
-    """The options at the end of a block of pcapng."""
-    at = 0
-    while at + 4 <= len(body):
-        code, size = struct.unpack_from(order + "HH", body, at)
-        if not code:
-            return
-        yield code, body[at + 4 : at + 4 + size]
-        at += 4 + size + -size % 4
-
-
-def of_pcapng(file: BinaryIO, head: bytes) -> Iterator[Record]:
-    """The frames of a pcapng file, with the names of their interfaces and their ways, where it has them."""
-    interfaces: list[tuple[int, str, int]] = []
-    order, waiting = "<", head
-    while True:
-        start = waiting + file.read(12 - len(waiting)) if len(waiting) < 12 else waiting
-        if len(start) < 12:
-            return
-        kind = start[:4]
-        if kind == b"\x0a\x0d\x0d\x0a":
-            order, interfaces = "<" if start[8:12] == b"\x4d\x3c\x2b\x1a" else ">", []
-        size = struct.unpack_from(order + "I", start, 4)[0]
-        if size < 12 or size > RECORD * 2:
-            return
-        block = start + file.read(size - len(start)) if size > len(start) else start[:size]
-        waiting = start[size:]
-        if len(block) < size:
-            return
-        number, body = struct.unpack_from(order + "I", block)[0], block[8:-4]
-        if number == 1:
-            said = dict(options(body[8:], order))
-            power = said.get(9, b"\x06")[0]
-            unit = 2 ** (power & 127) if power & 128 else 10**power
-            interfaces.append((struct.unpack_from(order + "H", body)[0], said.get(2, b"").decode(errors="replace") or str(len(interfaces)), unit))
-        elif number == 6:
-            place, high, low, kept, length = struct.unpack_from(order + "5I", body)
-            link, name, unit = interfaces[place]
-            flags = dict(options(body[20 + kept + -kept % 4 :], order)).get(2, b"")
-            octets = body[20 : 20 + kept]
-            way = {1: IN, 2: OUT}.get(struct.unpack(order + "I", flags)[0] & 3, UNKNOWN) if len(flags) == 4 else UNKNOWN
-            if link in (SLL, SLL2):
-                index, way = cooked(link, octets)
-                name = index or name
-            yield Record(((high << 32) + low) * SECOND // unit, link, octets, length, name, way)
 
 
 # Which way a frame goes.

@@ -14,7 +14,7 @@ from rendapil.any_capture import IN, OUT
 from rendapil.bindings import SECOND, SIDES
 from rendapil.check.settings import document_of
 from rendapil.comparing.bindings import Learnt, clocks_apart
-from rendapil.comparing.captures import Links, records, shifted
+from rendapil.comparing.captures import Links, shifted
 from rendapil.comparing.causes import BY_RIGHT, DIFFERENT, UNSURE, Group, Groups
 from rendapil.comparing.judge import Judge, Options, delays_of
 from rendapil.comparing.match import Match
@@ -23,6 +23,7 @@ from rendapil.ending import ended
 from rendapil.files import shown
 from rendapil.frames import time_of
 from rendapil.places import TOP
+from rendapil.readers import records
 from rendapil.sayings import Fault
 
 SHOWN = 40
