@@ -2,12 +2,13 @@
 use Rattle.std.proofs.Common.{◌≡◌, ◌<◌, ◌⊎◌, ℕ, Bool, true, false, not, ◌&&◌, ◌||◌, nat_lt, if◌then◌else◌, List, [], ◌∷◌, ◌++◌, Option}
 use Rattle.std.proofs.Common.{Some, None, is_some, is_none, option_map, refl, sym, ◌∙◌, ap, subst, inl, inr, fold, append_assoc, arith}
 use Rattle.std.proofs.lemmas.Bool.{cases_Bool, and_from, and_right, or_left, or_right, or_parts, not-false, ltb-true, true≢false}
-use Rattle.gate_base.specs.Prelude.{Event, other, first_that_holds, is_unicast_number}
+use Rattle.gate_base.specs.Prelude.{Event, other, is_unicast_number}
+use Rattle.verdicts.specs.Prelude.{first_that_holds}
 use Rattle.gate_base.specs.declared.address.Addr.{Addr}
-use Rattle.gate_base.specs.declared.event.Verdict.TheVariants.{Pass}
-use Rattle.gate_base.specs.declared.refusal.Refusal.{Refusal}
-use Rattle.gate_base.specs.declared.refusal.Refusal.TheVariants.{TtlSpent, NotUnicast, Protocol, SourceInPool}
-use Rattle.gate_base.specs.declared.refusal.Refusal.TheVariants.{NoBinding, NoSession, SessionsFull, PoolEmpty}
+use Rattle.verdicts.specs.declared.verdict.Verdict.TheVariants.{Pass}
+use Rattle.verdicts.specs.declared.refusal.Refusal.{Refusal}
+use Rattle.verdicts.specs.declared.refusal.Refusal.TheVariants.{TtlSpent, NotUnicast, Protocol, SourceInPool}
+use Rattle.verdicts.specs.declared.refusal.Refusal.TheVariants.{NoBinding, NoSession, SessionsFull, PoolEmpty}
 use Rattle.gate_base.specs.declared.side.Side.{Side}
 use Rattle.gate_base.proofs.Sides.{other_other}
 use Rattle.gate_settings.specs.Prelude.{is_in_same}

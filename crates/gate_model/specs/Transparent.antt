@@ -1,11 +1,12 @@
 -- That translation is transparent: nothing goes out under an address of the wrong realm, an alias means one host at a time, and replies
 -- come back (RFC 2663, RFC 4787, RFC 5382, RFC 5508).
 use Rattle.std.specs.Prelude.{◌≡◌, ◌⊎◌, Bool, true, false, if◌then◌else◌, All, List, [], ◌∷◌, ◌++◌, Option, Some, None, IfSome}
-use Rattle.gate_base.specs.Prelude.{Event, other, first_that_holds, is_unicast_number}
+use Rattle.gate_base.specs.Prelude.{Event, other, is_unicast_number}
+use Rattle.verdicts.specs.Prelude.{first_that_holds}
 use Rattle.gate_base.specs.declared.address.Addr.{Addr}
-use Rattle.gate_base.specs.declared.event.Verdict.TheVariants.{Pass}
-use Rattle.gate_base.specs.declared.refusal.Refusal.{Refusal}
-use Rattle.gate_base.specs.declared.refusal.Refusal.TheVariants.{SessionsFull}
+use Rattle.verdicts.specs.declared.verdict.Verdict.TheVariants.{Pass}
+use Rattle.verdicts.specs.declared.refusal.Refusal.{Refusal}
+use Rattle.verdicts.specs.declared.refusal.Refusal.TheVariants.{SessionsFull}
 use Rattle.gate_base.specs.declared.side.Side.{Side}
 use Rattle.binding_table.specs.Prelude.{Bindings, is_same, in_pool, seen, needed, image_after}
 use Rattle.icmp_errors.specs.Inner.{inner_fields}

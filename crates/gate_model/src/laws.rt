@@ -2,8 +2,8 @@
 ghost use Rattle.std.specs.Prelude.{◌≡◌, ◌≤◌, ◌<◌, ◌+◌, ◌*◌, ◌⊎◌, ℕ, true, false, if◌then◌else◌, List, [], ◌++◌, map, Option, Some, Ok, length, All};
 ghost use Rattle.std.specs.List.{fold};
 ghost use Rattle.gate_base.specs.Prelude.{Event};
-ghost use Rattle.gate_base.specs.declared.refusal.Refusal.{Refusal};
-ghost use Rattle.gate_base.specs.declared.event.Verdict.TheVariants.{Pass, Refused};
+ghost use Rattle.verdicts.specs.declared.refusal.Refusal.{Refusal};
+ghost use Rattle.verdicts.specs.declared.verdict.Verdict.TheVariants.{Pass, Refused};
 ghost use Rattle.gate_base.specs.declared.host.Host.{Host};
 ghost use Rattle.gate_base.specs.declared.side.Side.{Side};
 ghost use Rattle.gate_settings.specs.Prelude.{IsSound, HasForms};

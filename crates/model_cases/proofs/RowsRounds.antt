@@ -2,7 +2,7 @@
 use Rattle.std.proofs.Common.{◌≡◌, ◌<◌, ℕ, true, false, [], ◌∷◌, length, Some, None, refl, sym, subst, inl, lit<, lit≤}
 use Rattle.gate_base.specs.Prelude.{Event}
 use Rattle.gate_base.specs.declared.event.Pair.{Pair}
-use Rattle.gate_base.specs.declared.event.Verdict.TheVariants.{Pass}
+use Rattle.verdicts.specs.declared.verdict.Verdict.TheVariants.{Pass}
 use Rattle.gate_base.specs.declared.host.Host.TheVariants.{Client}
 use Rattle.gate_base.specs.declared.side.Link.TheVariants.{Raw}
 use Rattle.gate_base.specs.declared.side.Side.TheVariants.{Left, Right}

@@ -3,8 +3,8 @@ use Rattle.std.proofs.Common.{◌++◌, ◌≡◌, ◌<◌, true, false, List, [
 use Rattle.std.proofs.lemmas.List.Elements.{All-cons, All-nil}
 use Rattle.gate_base.specs.Prelude.{Event, is_unicast_number}
 use Rattle.gate_base.specs.declared.address.Addr.{Addr}
-use Rattle.gate_base.specs.declared.event.Verdict.TheVariants.{Pass, Refused}
-use Rattle.gate_base.specs.declared.refusal.Refusal.TheVariants.{NoBinding}
+use Rattle.verdicts.specs.declared.verdict.Verdict.TheVariants.{Pass, Refused}
+use Rattle.verdicts.specs.declared.refusal.Refusal.TheVariants.{NoBinding}
 use Rattle.gate_base.specs.declared.side.Link.TheVariants.{Raw}
 use Rattle.gate_base.specs.declared.side.Side.TheVariants.{Left, Right}
 use Rattle.gate_settings.specs.declared.settings.Settings.{Settings}
