@@ -32,7 +32,7 @@ use Rattle.gate_model.specs.Prelude.{out_by, out_kind, tcp_of, is_tracked_port, 
 use Rattle.gate_model.specs.Prelude.{session_refusal, refusal_tests, unit_tests, growth_tests, lacks_session, is_full, names_in, image_in, stream_out}
 use Rattle.gate_model.specs.Verdict.{verdict}
 use Rattle.gate_model.specs.Stream.{has_tracked_port}
-use Rattle.gate_model.specs.Transparent.{IsTranslated, KeepsAlias, IsReply, own_tests, own_reason}
+use Rattle.gate_model.specs.Transparent.{IsTranslated, KeepsAlias, MeansOne, IsReply, own_tests, own_reason}
 use Rattle.gate_model.specs.Transparent.{IsUntracked, IsPlainKind, ComesBack, IsAbout, ComesHome}
 use Rattle.gate_model.proofs.AliasesLast.{StandFor, cross_back, called_is, stand_after, stand_expired, stand_through}
 use Rattle.gate_model.proofs.AliasesLast.{lawful_through, lawful_next, lawful_by, passed_table, HostsAre, hosts_are, hosts_later}
@@ -127,65 +127,66 @@ header_stands : {S : Type 0} (rules : SessionRules S) (w : World S) (e : Event) 
     × StandFor (table_by rules w e) e.side (datagram_in e).destination (sent_to rules w e).0 (header_until rules w e)
 header_stands rules w e lawful v = let h = hosts_are rules w e lawful v in (inl h.own, inr h.far)
 
+other_way : (table : Bindings) (side : Side) (address image until : ℕ) → StandFor table side address image until
+    → StandFor table (other side) image address until
+other_way table side address image until (inl h) = inr (subst (λ (s : Side). IsKnownAs table s address image until) (sym (other_other side)) h)
+other_way table side address image until (inr h) = inl h
+
+means_one : {S : Type 0} (rules : SessionRules S) (last : World S) (x : Event) (side : Side) (address image : Addr) (until : ℕ) → IsLawful last.table
+    → StandFor (at_moment last x.moment).table side address.0 image.0 until → MeansOne rules side address image last x
+means_one {S = S} rules last x side address image until lawful now = record {
+  maps = λ own source. called_is (table_by rules last x) x.side (source_of dx) image
+      (ap (λ (s : Side). seen (table_by rules last x) s (source_of dx)) own ∙ ap (λ (a : Addr). seen (table_by rules last x) side a) source
+      ∙ later.there);
+  reaches = λ outside unicast far destination. (
+    ap (λ (s : Side). is_reachable (at_moment last x.moment).table s (destination_of dx)) far
+        ∙ ap (λ (a : Addr). is_reachable (at_moment last x.moment).table (other side) a) destination
+        ∙ reached (at_moment last x.moment).table side address.0 image.0 until (lawful_expired last.table (record { 0 = x.moment }) lawful) outside
+        unicast now,
+    called_is (table_by rules last x) x.side (destination_of dx) address
+        (ap (λ (s : Side). seen (table_by rules last x) s (destination_of dx)) far
+        ∙ ap (λ (a : Addr). seen (table_by rules last x) (other side) a) destination ∙ later.back),
+  );
+  alone = λ own passes from.
+      let mine = (cross_back (table_by rules last x) x.side dx.source (sent_from rules last x).0 (header_until rules last x) lawful_x
+      (header_stands rules last x lawful passes).0).back in
+      let same : Some (source_of dx) ≡ Some address = sym mine
+      ∙ ap (λ (s : Side). seen (table_by rules last x) (other s) (sent_from rules last x)) own
+      ∙ ap (λ (a : Addr). seen (table_by rules last x) (other side) a) from ∙ later.back in
+      cc;
+}
+  where
+    dx : Datagram
+    dx = datagram_in x
+
+    lawful_x : IsLawful (table_by rules last x)
+    lawful_x = lawful_by rules last x lawful
+
+    later : CrossBack (table_by rules last x) side address image
+    later =
+        cross_back (table_by rules last x) side address.0 image.0 until lawful_x
+        (stand_after (uses_of rules (at_moment last x.moment) x.side x.moment (datagram_in x) (kind_of (datagram_in x)))
+        (at_moment last x.moment).table side address.0 image.0 until now)
+
 pub keeps_alias : {S : Type 0} (rules : SessionRules S) (w : World S) (e : Event) (address : Addr) (until : ℕ) (between : List Event)
     (x : Event) → IsLawful w.table → verdict rules w e ≡ Pass
     → StandFor (table_by rules w e) e.side address.0 (called_by rules w e address).0 until → AllBefore until between → x.moment < until
     → KeepsAlias rules w e address (fold (next rules) (next rules w e) between) x
-keeps_alias {S = S} rules w e address until between x lawful v stands before less = record {
-  crosses = cross_back live_table e.side address.0 image.0 until lawful_live now;
-  maps = λ side source. called_is (table_by rules last x) x.side (source_of dx) image
-      (ap (λ (s : Side). seen (table_by rules last x) s (source_of dx)) side
-      ∙ ap (λ (a : Addr). seen (table_by rules last x) e.side a) source ∙ later.there);
-  reaches = λ outside unicast side destination. (
-    ap (λ (s : Side). is_reachable live_table s (destination_of dx)) side
-        ∙ ap (λ (a : Addr). is_reachable live_table (other e.side) a) destination
-        ∙ reached live_table e.side address.0 image.0 until lawful_live outside unicast now,
-    called_is (table_by rules last x) x.side (destination_of dx) address
-        (ap (λ (s : Side). seen (table_by rules last x) s (destination_of dx)) side
-        ∙ ap (λ (a : Addr). seen (table_by rules last x) (other e.side) a) destination ∙ later.back),
-  );
-  alone = λ side passes from.
-      let mine = (cross_back (table_by rules last x) x.side dx.source (sent_from rules last x).0 (header_until rules last x) lawful_x
-      (header_stands rules last x lawful_last passes).0).back in
-      let same : Some (source_of dx) ≡ Some address = sym mine
-      ∙ ap (λ (s : Side). seen (table_by rules last x) (other s) (sent_from rules last x)) side
-      ∙ ap (λ (a : Addr). seen (table_by rules last x) (other e.side) a) from ∙ later.back in
-      cc;
-}
-  where
-    last : World S
-    last = fold (next rules) (next rules w e) between
-
-    dx : Datagram
-    dx = datagram_in x
-
-    image : Addr
-    image = called_by rules w e address
-
-    live_table : Bindings
-    live_table = (at_moment (fold (next rules) (next rules w e) between) x.moment).table
-
-    lawful_last : IsLawful (fold (next rules) (next rules w e) between).table
-    lawful_last = lawful_through rules between (next rules w e) (lawful_next rules w e lawful)
-
-    lawful_live : IsLawful (at_moment (fold (next rules) (next rules w e) between) x.moment).table
-    lawful_live = lawful_expired (fold (next rules) (next rules w e) between).table (record { 0 = x.moment }) lawful_last
-
-    lawful_x : IsLawful (table_by rules (fold (next rules) (next rules w e) between) x)
-    lawful_x = lawful_by rules (fold (next rules) (next rules w e) between) x lawful_last
-
-    now : StandFor (at_moment (fold (next rules) (next rules w e) between) x.moment).table e.side address.0 (called_by rules w e address).0 until
-    now =
-        stand_expired (fold (next rules) (next rules w e) between).table e.side address.0 (called_by rules w e address).0 until x.moment less
-        (stand_through rules between (next rules w e) e.side address.0 (called_by rules w e address).0 until before
-        (subst (λ (t : Bindings). StandFor t e.side address.0 (called_by rules w e address).0 until) (sym (passed_table rules w e v)) stands))
-
-    later : CrossBack (table_by rules (fold (next rules) (next rules w e) between) x) e.side address (called_by rules w e address)
-    later =
-        cross_back (table_by rules (fold (next rules) (next rules w e) between) x) e.side address.0 (called_by rules w e address).0 until lawful_x
-        (stand_after (uses_of rules (at_moment (fold (next rules) (next rules w e) between) x.moment) x.side x.moment (datagram_in x)
-        (kind_of (datagram_in x))) (at_moment (fold (next rules) (next rules w e) between) x.moment).table e.side address.0
-        (called_by rules w e address).0 until now)
+keeps_alias {S = S} rules w e address until between x lawful v stands before less =
+    let last : World S = fold (next rules) (next rules w e) between in
+    let image : Addr = called_by rules w e address in
+    let lawful_last : IsLawful last.table = lawful_through rules between (next rules w e) (lawful_next rules w e lawful) in
+    let now : StandFor (at_moment last x.moment).table e.side address.0 image.0 until =
+    stand_expired last.table e.side address.0 image.0 until x.moment less
+    (stand_through rules between (next rules w e) e.side address.0 image.0 until before
+    (subst (λ (t : Bindings). StandFor t e.side address.0 image.0 until) (sym (passed_table rules w e v)) stands)) in
+    record {
+      crosses = cross_back (at_moment last x.moment).table e.side address.0 image.0 until
+          (lawful_expired last.table (record { 0 = x.moment }) lawful_last) now;
+      own = means_one rules last x e.side address image until lawful_last now;
+      far = means_one rules last x (other e.side) image address until lawful_last
+          (other_way (at_moment last x.moment).table e.side address.0 image.0 until now);
+    }
 
 -- ## Replies
 

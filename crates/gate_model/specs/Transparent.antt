@@ -34,18 +34,24 @@ pub record IsTranslated {S : Type 0} (rules : SessionRules S) (w : World S) (e :
 
 -- ## While a frame keeps an address
 
+-- what a later frame finds of an address of a realm and of what that is called in the other one: if the address is a host's,
+pub record MeansOne {S : Type 0} (rules : SessionRules S) (side : Side) (address image : Addr) (v : World S) (x : Event) : Type 0 where
+  -- whatever the host sends, and to whomever, goes out from the same alias (endpoint-independent mapping: RFC 4787, REQ-1; RFC 5382, REQ-1);
+  pub maps : x.side ≡ side → source_of (datagram_in x) ≡ address → sent_from rules v x ≡ image
+  -- whoever sends to the alias reaches the host (endpoint-independent filtering: RFC 4787, REQ-8; RFC 5382, REQ-3);
+  pub reaches : in_pool (at_moment v x.moment).table side address ≡ false → is_unicast_number address.0 ≡ true → x.side ≡ other side
+      → destination_of (datagram_in x) ≡ image
+      → (is_reachable (at_moment v x.moment).table x.side (destination_of (datagram_in x)) ≡ true) × (sent_to rules v x ≡ address)
+  -- and what another host sends doesn't go out from it
+  pub alone : x.side ≡ side → verdict rules v x ≡ Pass → sent_from rules v x ≡ image → source_of (datagram_in x) ≡ address
+
 -- what a later frame finds of an address that a frame keeps, and of what it is called:
 pub record KeepsAlias {S : Type 0} (rules : SessionRules S) (w : World S) (e : Event) (address : Addr) (v : World S) (x : Event) : Type 0 where
   -- each is called the other;
   pub crosses : CrossBack (at_moment v x.moment).table e.side address (called_by rules w e address)
-  -- whatever the host sends, and to whomever, goes out from the same alias (endpoint-independent mapping: RFC 4787, REQ-1; RFC 5382, REQ-1);
-  pub maps : x.side ≡ e.side → source_of (datagram_in x) ≡ address → sent_from rules v x ≡ called_by rules w e address
-  -- whoever sends to a host's alias reaches the host (endpoint-independent filtering: RFC 4787, REQ-8; RFC 5382, REQ-3);
-  pub reaches : in_pool (at_moment v x.moment).table e.side address ≡ false → is_unicast_number address.0 ≡ true → x.side ≡ other e.side
-      → destination_of (datagram_in x) ≡ called_by rules w e address
-      → (is_reachable (at_moment v x.moment).table x.side (destination_of (datagram_in x)) ≡ true) × (sent_to rules v x ≡ address)
-  -- and what another host sends doesn't go out from it
-  pub alone : x.side ≡ e.side → verdict rules v x ≡ Pass → sent_from rules v x ≡ called_by rules w e address → source_of (datagram_in x) ≡ address
+  -- each means one host: the address where it is a host's of the frame's realm, and what it is called where that is a host's of the other one
+  pub own : MeansOne rules e.side address (called_by rules w e address) v x
+  pub far : MeansOne rules (other e.side) (called_by rules w e address) address v x
 
 -- what a DNS message over UDP names goes out as it is called, and what means the same host in both realms as it is
 abbrev pub NamesAreCalled : {S : Type 0} → SessionRules S → World S → Event → Type 0
