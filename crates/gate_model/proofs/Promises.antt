@@ -25,7 +25,7 @@ use Rattle.gate_model.proofs.FrameRounds.{frame_rounds_few, frame_rounds_raise}
 use Rattle.gate_model.proofs.HostsKept.{KeepsAll, run_hosts}
 use Rattle.gate_model.proofs.HostsOpen.{opening_hosts, pairs_cross}
 use Rattle.gate_model.proofs.ListsWorld.{whole_lists, run_lists, opening_lists, lists_cross, images_stay}
-use Rattle.gate_model.proofs.NamesLast.{kept_stands, names_called}
+use Rattle.gate_model.proofs.NamesLast.{kept_stands, names_called, goes_out_called}
 use Rattle.gate_model.proofs.OriginsKept.{all_come}
 use Rattle.gate_model.proofs.Ports.{untracked}
 use Rattle.gate_model.proofs.ReadSteps.{out_as, run_as}
@@ -107,7 +107,7 @@ promised settings events sound forms =
           renames = λ v plain. ap (out_by whole_rules live e) v ∙ goes_once live table e.side e.moment d (called table e.side (source_of d)).0
               (called table e.side (destination_of d)).0 (kind_of d) plain;
           translated = λ v. translated_are whole_rules w e (lawful done) v;
-          named = λ v dns. names_called whole_rules w e (lawful done) v dns;
+          named = λ v dns. let is = names_called whole_rules w e (lawful done) v dns in (is, goes_out_called whole_rules w e v dns is);
           meant = λ v. meant whole_rules settings done e sound forms v;
           untracked = λ kind ports. untracked whole_rules settings done e kind ports;
         }

@@ -1,6 +1,6 @@
 -- Replies come back, and aliases mean one host.
 use Rattle.std.proofs.Common.{◌≡◌, ◌<◌, ◌⊎◌, ℕ, Bool, true, false, not, ◌&&◌, ◌||◌, nat_lt, if◌then◌else◌, List, [], ◌∷◌, ◌++◌, Option}
-use Rattle.std.proofs.Common.{Some, None, is_some, is_none, option_map, refl, sym, ◌∙◌, ap, subst, inl, inr, fold, append_assoc, arith}
+use Rattle.std.proofs.Common.{Some, None, is_some, is_none, option_map, option_and_then, refl, sym, ◌∙◌, ap, subst, inl, inr, fold, append_assoc, arith}
 use Rattle.std.proofs.lemmas.Bool.{cases_Bool, and_from, and_right, or_left, or_right, or_parts, not-false, ltb-true, true≢false}
 use Rattle.gate_base.specs.Prelude.{Event, other, first_that_holds, is_unicast_number}
 use Rattle.gate_base.specs.declared.address.Addr.{Addr}
@@ -11,7 +11,7 @@ use Rattle.gate_base.specs.declared.refusal.Refusal.TheVariants.{NoBinding, NoSe
 use Rattle.gate_base.specs.declared.side.Side.{Side}
 use Rattle.gate_base.proofs.Sides.{other_other}
 use Rattle.gate_settings.specs.Prelude.{is_in_same}
-use Rattle.icmp_errors.specs.Inner.{inner_fields}
+use Rattle.icmp_errors.specs.Inner.{inner_fields, inner_with}
 use Rattle.icmp_errors.specs.declared.Inner.{Inner}
 use Rattle.ipv4_frames.specs.Ipv4.{Datagram}
 use Rattle.tcp_tracker.specs.declared.connection.Connection.{Connection}
@@ -24,7 +24,8 @@ use Rattle.binding_table.proofs.Kept.{lawful_expired}
 use Rattle.binding_table.proofs.Used.{known_after}
 use Rattle.gate_model.specs.Called.{table_by, called_by, sent_from, sent_to, header_until, CrossBack, AllBefore}
 use Rattle.gate_model.specs.Frame.{has_other_address, is_other_protocol}
-use Rattle.gate_model.specs.Inner.{inner_session}
+use Rattle.gate_model.specs.Frame.{Error, Dns, Snmp}
+use Rattle.gate_model.specs.Inner.{inner_session, inner_number, inner_after, with_inside}
 use Rattle.gate_model.specs.Prelude.{SessionRules, Kind, Whole, Udp, Echo, Stream, Tracked, World, host_on, at_moment, called, source_of}
 use Rattle.gate_model.specs.Prelude.{destination_of, addresses_of, datagram_in, kind_of, header_tests, datagram_tests, transport_tests, address_tests}
 use Rattle.gate_model.specs.Prelude.{world_tests, is_pool_empty, is_reachable, is_unknown, inside, uses_of, table_after, tests, verdict_of, next, out}
@@ -473,6 +474,27 @@ bound_of : {T : Type 0} (a b : Option Addr) (x y : Addr) (o : Option T) (f : T �
     → ((is_none a || is_none b) || is_unknown (option_map f o)) ≡ false
 bound_of a b x y o f e g h = rw (e, g, h) refl
 
+error_out : {S : Type 0} (rules : SessionRules S) (live : World S) (side : Side) (moment : ℕ) (d : Datagram) (kind : Kind) → kind ≡ Whole Error
+    → out_kind rules live side moment d kind ≡ renamed (with_inside d (inner_after rules live side (inside d)))
+    (called (table_after rules live side moment d kind) side (source_of d)).0
+    (called (table_after rules live side moment d kind) side (destination_of d)).0 ∷ []
+error_out rules live side moment d (Whole Error) e = refl
+error_out rules live side moment d (Whole Udp) e = cc
+error_out rules live side moment d (Whole Echo) e = cc
+error_out rules live side moment d (Whole Dns) e = cc
+error_out rules live side moment d (Whole Snmp) e = cc
+error_out rules live side moment d Stream e = cc
+
+inside_is : {S : Type 0} (rules : SessionRules S) (live : World S) (side : Side) (octets : List ℕ) (a b : Addr)
+    → seen live.table side (inner_fields octets).source ≡ Some a → seen live.table side (inner_fields octets).destination ≡ Some b
+    → inner_after rules live side octets
+    ≡ inner_with octets a.0 b.0 (option_and_then (λ number. number) (inner_number rules live side (inner_fields octets)))
+inside_is rules live side octets a b e f =
+    let inner = inner_fields octets in
+    let number = option_and_then (λ number. number) (inner_number rules live side inner) in
+    ap (λ (x : Addr). inner_with octets x.0 (called live.table side inner.destination).0 number) (called_is live.table side inner.source a e)
+    ∙ ap (λ (x : Addr). inner_with octets a.0 x.0 number) (called_is live.table side inner.destination b f)
+
 pub comes_home : {S : Type 0} (rules : SessionRules S) (w : World S) (e : Event) (between : List Event) (r : Event) → IsLawful w.table
     → verdict rules w e ≡ Pass → IsAbout rules w e r → AllBefore (header_until rules w e) between → r.moment < header_until rules w e
     → ComesHome rules e (fold (next rules) (next rules w e) between) r
@@ -483,6 +505,11 @@ comes_home {S = S} rules w e between r lawful v about before less = record {
       bound_of (seen table r.side inner.source) (seen table r.side inner.destination) (source_of (datagram_in e))
       (destination_of (datagram_in e)) (inner_session live r.side inner)
       (λ (t : Tracked S). rules.inner (host_on (other r.side) t) t.session inner.sequence) source destination none;
+  sent = λ kind passes.
+      ap (out_by rules live r) passes ∙ error_out rules live r.side r.moment (datagram_in r) (kind_of (datagram_in r)) kind
+      ∙ ap (λ (octets : List ℕ). renamed (with_inside (datagram_in r) octets) (sent_from rules (fold (next rules) (next rules w e) between) r).0
+      (sent_to rules (fold (next rules) (next rules w e) between) r).0 ∷ [])
+      (inside_is rules live r.side (inside (datagram_in r)) (source_of (datagram_in e)) (destination_of (datagram_in e)) source destination);
 }
   where
     inner : Inner

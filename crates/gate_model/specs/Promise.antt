@@ -22,7 +22,8 @@ use Rattle.gate_model.specs.Sessions.{WholeSession}
 use Rattle.gate_model.specs.Step.{next, out, taker_in, translated}
 use Rattle.gate_model.specs.Stream.{has_tracked_port}
 use Rattle.gate_model.specs.Taken.{TakesSegment, said, taken_by}
-use Rattle.gate_model.specs.Transparent.{IsTranslated, KeepsAlias, NamesAreCalled, IsReply, ComesBack, IsAbout, ComesHome, IsUntracked, ReachesHosts}
+use Rattle.gate_model.specs.Transparent.{IsTranslated, KeepsAlias, NamesAreCalled, GoesOutCalled, IsReply, ComesBack, IsAbout, ComesHome}
+use Rattle.gate_model.specs.Transparent.{IsUntracked, ReachesHosts}
 use Rattle.gate_model.specs.Remembered.{RememberedSession, remembering_rules, SessionIs, EachTracked}
 use Rattle.stream_model.specs.Prelude.{acknowledged_of, own}
 use Rattle.gate_model.specs.Verdict.{tests, verdict}
@@ -62,7 +63,7 @@ pub record FrameIs (settings : Settings) (done : List Event) (w : World WholeSes
   -- translation is transparent: what passes goes out from an alias, of the realm that it goes to, to a host of that realm;
   pub translated : verdict whole_rules w e ≡ Pass → IsTranslated whole_rules w e
   -- a DNS message over UDP goes out with what the addresses that it names are called;
-  pub named : verdict whole_rules w e ≡ Pass → kind_of (datagram_in e) ≡ Whole Dns → NamesAreCalled whole_rules w e
+  pub named : verdict whole_rules w e ≡ Pass → kind_of (datagram_in e) ≡ Whole Dns → NamesAreCalled whole_rules w e × GoesOutCalled whole_rules w e
   -- a frame reaches a host only by a binding that is static, or that a frame has used until a moment that isn't over;
   pub meant : verdict whole_rules w e ≡ Pass
       → (is_same (at_moment w e.moment).table (destination_of (datagram_in e)) ≡ true) ⊎ IsMeant whole_rules settings done w e

@@ -1,6 +1,6 @@
 -- That translation is transparent: nothing goes out under an address of the wrong realm, an alias means one host at a time, and replies
 -- come back (RFC 2663, RFC 4787, RFC 5382, RFC 5508).
-use Rattle.std.specs.Prelude.{◌≡◌, ◌⊎◌, Bool, true, false, if◌then◌else◌, All, List, [], ◌∷◌, ◌++◌, Option, Some, None, IfSome}
+use Rattle.std.specs.Prelude.{◌≡◌, ◌⊎◌, Bool, true, false, if◌then◌else◌, map, All, List, [], ◌∷◌, ◌++◌, Option, Some, None, IfSome, option_and_then}
 use Rattle.gate_base.specs.Prelude.{Event, other, first_that_holds, is_unicast_number}
 use Rattle.gate_base.specs.declared.address.Addr.{Addr}
 use Rattle.gate_base.specs.declared.event.Verdict.TheVariants.{Pass}
@@ -8,12 +8,12 @@ use Rattle.gate_base.specs.declared.refusal.Refusal.{Refusal}
 use Rattle.gate_base.specs.declared.refusal.Refusal.TheVariants.{SessionsFull}
 use Rattle.gate_base.specs.declared.side.Side.{Side}
 use Rattle.binding_table.specs.Prelude.{Bindings, is_same, in_pool, seen, needed, image_after}
-use Rattle.icmp_errors.specs.Inner.{inner_fields}
-use Rattle.twice_translate.specs.Renamed.{renamed}
+use Rattle.icmp_errors.specs.Inner.{inner_fields, inner_with}
+use Rattle.twice_translate.specs.Renamed.{renamed, with_payload}
 use Rattle.gate_model.specs.Called.{table_by, called_by, sent_from, sent_to, CrossBack}
-use Rattle.gate_model.specs.Frame.{Udp, Echo, Kind, Whole, Stream, datagram_in, header_tests, datagram_tests, transport_tests, kind_of}
-use Rattle.gate_model.specs.Inner.{inside, inner_session, is_inner_unbound}
-use Rattle.gate_model.specs.Names.{message_in, named_in}
+use Rattle.gate_model.specs.Frame.{Udp, Echo, Error, Kind, Whole, Stream, datagram_in, header_tests, datagram_tests, transport_tests, kind_of}
+use Rattle.gate_model.specs.Inner.{inside, inner_session, inner_number, is_inner_unbound, with_inside}
+use Rattle.gate_model.specs.Names.{message_in, named_in, carried, reply_by}
 use Rattle.gate_model.specs.Rules.{SessionRules}
 use Rattle.gate_model.specs.Step.{out}
 use Rattle.gate_model.specs.Stream.{found_in, has_tracked_port, session_in, is_full}
@@ -59,6 +59,13 @@ NamesAreCalled rules w e =
     let table = (at_moment w e.moment).table in
     All (λ a. image_after table (table_by rules w e) e.side a ≡ (if is_same table a then None else Some (called_by rules w e a)))
     (named_in (message_in (datagram_in e)))
+
+-- so it goes out, renamed by that
+abbrev pub GoesOutCalled : {S : Type 0} → SessionRules S → World S → Event → Type 0
+GoesOutCalled rules w e =
+    let d = datagram_in e in
+    let images = map (λ a. if is_same (at_moment w e.moment).table a then None else Some (called_by rules w e a)) (named_in (message_in d)) in
+    out rules w e ≡ renamed (with_payload d (reply_by images (carried d) (message_in d))) (sent_from rules w e).0 (sent_to rules w e).0 ∷ []
 
 -- ## Replies
 
@@ -121,6 +128,11 @@ pub record ComesHome {S : Type 0} (rules : SessionRules S) (e : Event) (v : Worl
   -- and where no session is asked for a number, they are no reason to refuse it
   pub bound : inner_session (at_moment v r.moment) r.side (inner_fields (inside (datagram_in r))) ≡ None
       → is_inner_unbound rules (at_moment v r.moment) r.side (inner_fields (inside (datagram_in r))) ≡ false
+  -- if it passes, it goes out with them inside
+  pub sent : kind_of (datagram_in r) ≡ Whole Error → verdict rules v r ≡ Pass → let octets = inside (datagram_in r) in
+      out rules v r ≡ renamed (with_inside (datagram_in r) (inner_with octets (datagram_in e).source (datagram_in e).destination
+      (option_and_then (λ number. number) (inner_number rules (at_moment v r.moment) r.side (inner_fields octets)))))
+      (sent_from rules v r).0 (sent_to rules v r).0 ∷ []
 
 -- ## Connections
 
