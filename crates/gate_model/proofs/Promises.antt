@@ -32,6 +32,7 @@ use Rattle.gate_model.proofs.ReadSteps.{out_as, run_as}
 use Rattle.gate_model.proofs.SegmentsTaken.{taken_out}
 use Rattle.gate_model.proofs.RememberedSessions.{TrackedHolds, remembered_reads, remembered_keeps, session_is, run_holds, sessions_are}
 use Rattle.gate_model.proofs.Tracking.{taken_keeps}
+use Rattle.gate_model.proofs.ForGood.{for_good, gets_through}
 use Rattle.gate_model.proofs.Transparency.{translated_are, keeps_alias, comes_back, comes_home}
 
 verdict_is : (w : World WholeSession) (e : Event) → verdict whole_rules w e ≡ verdict_of (reason w e)
@@ -62,6 +63,7 @@ promised settings events sound forms =
               frame_rounds_few host rounds (remembered_after settings done) t knows had (run_holds done settings) below acked all,
             );
             reached = λ now. hosts_reached (known_after settings done) now (hosts done);
+            fixed = λ side host alias is. for_good whole_rules settings done side host alias sound forms (lawful done) is;
             origins = all_come whole_rules settings done;
           };
       frames = λ done others e split. frame_is done e;
@@ -110,6 +112,7 @@ promised settings events sound forms =
           named = λ v dns. let is = names_called whole_rules w e (lawful done) v dns in (is, goes_out_called whole_rules w e v dns is);
           meant = λ v. meant whole_rules settings done e sound forms v;
           untracked = λ kind ports. untracked whole_rules settings done e kind ports;
+          between = λ alias host own far. gets_through whole_rules settings done e alias host sound forms (lawful done) own far;
         }
 
     later : (done between : List Event) (e : Event) → known_after settings (done ++ e ∷ between)

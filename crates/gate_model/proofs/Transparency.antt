@@ -43,7 +43,7 @@ use Rattle.gate_model.proofs.Passing.{NoneHolds, none_head, none_tail, none_left
 -- ## Addresses of hosts, and aliases
 
 -- a host isn't one of its own realm's pool
-host_outside : (table : Bindings) (side : Side) (host alias until : ℕ) → IsLawful table → IsKnownAs table side host alias until
+pub host_outside : (table : Bindings) (side : Side) (host alias until : ℕ) → IsLawful table → IsKnownAs table side host alias until
     → in_pool table side (record { 0 = host }) ≡ false
 host_outside table side host alias until lawful (inl same) = elim (cases_Bool (in_pool table side (record { 0 = host }))) [
   | inl pool ↦ absurd (true≢false (sym same.0 ∙ lawful.pools side (record { 0 = host }) pool))
@@ -59,7 +59,7 @@ some_is : (o : Option Addr) (a : Addr) → o ≡ Some a → is_some o ≡ true
 some_is o a e = ap is_some e
 
 -- the alias of a host of the realm can be reached from the other one
-known_reached : (table : Bindings) (side : Side) (host alias until : ℕ) → IsLawful table → is_unicast_number host ≡ true
+pub known_reached : (table : Bindings) (side : Side) (host alias until : ℕ) → IsLawful table → is_unicast_number host ≡ true
     → IsKnownAs table side host alias until → is_reachable table (other side) (record { 0 = alias }) ≡ true
 known_reached table side host alias until lawful unicast (inl same) =
     let inside_same : is_in_same (record { 0 = host }) table.same ≡ true =
@@ -199,14 +199,14 @@ settled_needs Unbound address image h = refl
 settled_needs Empty address image h = cc
 
 -- two addresses that are called something need no alias
-none_needed : (table : Bindings) (side : Side) (a b x y : Addr) → seen table side a ≡ Some x → seen table side b ≡ Some y
+pub none_needed : (table : Bindings) (side : Side) (a b x y : Addr) → seen table side a ≡ Some x → seen table side b ≡ Some y
     → needed table side (a ∷ b ∷ []) ≡ 0
 none_needed table side a b x y e f = rw (settled_needs (cross table side a) a x e, settled_needs (cross table side b) b y f) refl
 
-two_fail : (a b : Bool) (r s : Refusal) → a ≡ false → b ≡ false → first_that_holds ((a, r) ∷ (b, s) ∷ []) ≡ None
+pub two_fail : (a b : Bool) (r s : Refusal) → a ≡ false → b ≡ false → first_that_holds ((a, r) ∷ (b, s) ∷ []) ≡ None
 two_fail a b r s e f = rw (e, f) refl
 
-ahead : (xs ys : List (Bool × Refusal)) → first_that_holds xs ≡ None → first_that_holds (xs ++ ys) ≡ first_that_holds ys
+pub ahead : (xs ys : List (Bool × Refusal)) → first_that_holds xs ≡ None → first_that_holds (xs ++ ys) ≡ first_that_holds ys
 ahead [] ys e = refl
 ahead ((true, r) ∷ xs) ys e = cc
 ahead ((false, r) ∷ xs) ys e = ahead xs ys e
@@ -216,13 +216,13 @@ behind [] ys e = e
 behind ((true, r) ∷ xs) ys e = refl
 behind ((false, r) ∷ xs) ys e = behind xs ys e
 
-same_behind : (xs ys zs : List (Bool × Refusal)) → first_that_holds ys ≡ first_that_holds zs
+pub same_behind : (xs ys zs : List (Bool × Refusal)) → first_that_holds ys ≡ first_that_holds zs
     → first_that_holds (xs ++ ys) ≡ first_that_holds (xs ++ zs)
 same_behind [] ys zs e = e
 same_behind ((true, r) ∷ xs) ys zs e = refl
 same_behind ((false, r) ∷ xs) ys zs e = same_behind xs ys zs e
 
-not_below : (n : ℕ) → nat_lt n 0 ≡ false
+pub not_below : (n : ℕ) → nat_lt n 0 ≡ false
 not_below n = elim (cases_Bool (nat_lt n 0)) [ inl e ↦ absurd (let less = ltb-true n 0 e in omega (arith, less)) | inr e ↦ e ]
 
 -- no test of the world holds of a plain kind whose addresses are known
@@ -242,10 +242,10 @@ world_none rules live side moment d (Whole Udp) plain addresses room = pool_enou
 world_none rules live side moment d (Whole Echo) plain addresses room = pool_enough live.table side d addresses room
 world_none rules live side moment d _ plain addresses room = absurd plain
 
-in_order : (a b c d : List (Bool × Refusal)) → (a ++ (b ++ c)) ++ d ≡ a ++ (b ++ (c ++ d))
+pub in_order : (a b c d : List (Bool × Refusal)) → (a ++ (b ++ c)) ++ d ≡ a ++ (b ++ (c ++ d))
 in_order a b c d = append_assoc a (b ++ c) d ∙ ap (λ (xs : List (Bool × Refusal)). a ++ xs) (append_assoc b c d)
 
-plain_verdict : {S : Type 0} (rules : SessionRules S) (v : World S) (r : Event) → IsPlainKind (kind_of (datagram_in r))
+pub plain_verdict : {S : Type 0} (rules : SessionRules S) (v : World S) (r : Event) → IsPlainKind (kind_of (datagram_in r))
     → first_that_holds (address_tests (at_moment v r.moment).table r.side (datagram_in r)) ≡ None
     → needed (at_moment v r.moment).table r.side (addresses_of (datagram_in r)) ≡ 0 → verdict rules v r ≡ verdict_of (own_reason r)
 unfolding verdict
@@ -317,7 +317,7 @@ stream_none {S = S} rules live side moment d addresses room ports session =
     (is_full live.connections found d) (is_pool_empty rules live side d Stream) (taker_in rules live side moment d) addresses lacks pool
     (taker_none rules (table_after rules live side moment d Stream) side d found session port)
 
-segment_verdict : {S : Type 0} (rules : SessionRules S) (v : World S) (r : Event) → IsUntracked v r
+pub segment_verdict : {S : Type 0} (rules : SessionRules S) (v : World S) (r : Event) → IsUntracked v r
     → first_that_holds (address_tests (at_moment v r.moment).table r.side (datagram_in r)) ≡ None
     → needed (at_moment v r.moment).table r.side (addresses_of (datagram_in r)) ≡ 0
     → verdict rules v r ≡ verdict_of (first_that_holds (own_tests r ++
@@ -334,7 +334,7 @@ segment_verdict {S = S} rules v r is addresses room =
     ∙ same_behind (own_tests r) (world_tests rules live r.side r.moment d Stream) last
     (stream_none rules live r.side r.moment d addresses room is.ports is.session))
 
-segment_out : {S : Type 0} (rules : SessionRules S) (v : World S) (r : Event) → IsUntracked v r
+pub segment_out : {S : Type 0} (rules : SessionRules S) (v : World S) (r : Event) → IsUntracked v r
     → out_kind rules (at_moment v r.moment) r.side r.moment (datagram_in r) (kind_of (datagram_in r))
     ≡ renamed (datagram_in r) (sent_from rules v r).0 (sent_to rules v r).0 ∷ []
 segment_out {S = S} rules v r is =
@@ -354,7 +354,7 @@ segment_out {S = S} rules v r is =
         ap (stream_out rules (image_in rules live side moment d) side d (called table side (source_of d)).0
         (called table side (destination_of d)).0) t
 
-plain_out : {S : Type 0} (rules : SessionRules S) (live : World S) (side : Side) (moment : ℕ) (d : Datagram) (kind : Kind)
+pub plain_out : {S : Type 0} (rules : SessionRules S) (live : World S) (side : Side) (moment : ℕ) (d : Datagram) (kind : Kind)
     → IsPlainKind kind → out_kind rules live side moment d kind
     ≡ renamed d (called (table_after rules live side moment d kind) side (source_of d)).0
     (called (table_after rules live side moment d kind) side (destination_of d)).0 ∷ []

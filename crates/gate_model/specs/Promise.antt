@@ -2,15 +2,17 @@
 use Rattle.std.specs.Prelude.{◌≡◌, ◌≤◌, ◌<◌, ◌+◌, ◌⊎◌, ℕ, true, false, All, List, [], ◌∷◌, ◌++◌, length, Option, Some, None}
 use Rattle.std.specs.List.{fold}
 use Rattle.dialogue.specs.Prelude.{image}
-use Rattle.gate_base.specs.Prelude.{Event, first_that_holds}
+use Rattle.gate_base.specs.Prelude.{Event, first_that_holds, other}
 use Rattle.gate_base.specs.declared.address.Addr.{Addr}
 use Rattle.gate_base.specs.declared.event.Verdict.TheVariants.{Pass, Refused}
 use Rattle.gate_base.specs.declared.refusal.Refusal.{Refusal}
 use Rattle.gate_base.specs.declared.host.Host.{Host}
+use Rattle.gate_base.specs.declared.side.Side.{Side}
 use Rattle.gate_settings.specs.declared.settings.Settings.{Settings}
 use Rattle.binding_table.specs.Prelude.{is_same}
 use Rattle.twice_translate.specs.Renamed.{renamed}
-use Rattle.gate_model.specs.Called.{IsKeptUntil, AllBefore, header_until, table_by, sent_from, sent_to}
+use Rattle.gate_model.specs.Called.{CrossBack, IsKeptUntil, AllBefore, header_until, table_by, sent_from, sent_to}
+use Rattle.gate_model.specs.ForGood.{IsFixed, GetsThrough}
 use Rattle.gate_model.specs.Frame.{Dns, Whole, Stream, datagram_in, kind_of}
 use Rattle.gate_model.specs.GoingOn.{streams_of, OnlyRestsWait, HasDataSegment, GoesOnBy, ComesThrough}
 use Rattle.gate_model.specs.Held.{PairCrosses, KeepsLists, ListsCross, KeepsImages}
@@ -27,7 +29,7 @@ use Rattle.gate_model.specs.Transparent.{IsUntracked, ReachesHosts}
 use Rattle.gate_model.specs.Remembered.{RememberedSession, remembering_rules, SessionIs, EachTracked}
 use Rattle.stream_model.specs.Prelude.{acknowledged_of, own}
 use Rattle.gate_model.specs.Verdict.{tests, verdict}
-use Rattle.gate_model.specs.World.{Tracked, World, at_moment, destination_of, opening_world}
+use Rattle.gate_model.specs.World.{Tracked, World, at_moment, destination_of, opening_world, source_of}
 
 -- what is known after these events
 abbrev pub known_after : Settings → List Event → World WholeSession
@@ -67,8 +69,11 @@ pub record FrameIs (settings : Settings) (done : List Event) (w : World WholeSes
   -- a frame reaches a host only by a binding that is static, or that a frame has used until a moment that isn't over;
   pub meant : verdict whole_rules w e ≡ Pass
       → (is_same (at_moment w e.moment).table (destination_of (datagram_in e)) ≡ true) ⊎ IsMeant whole_rules settings done w e
-  -- and a TCP segment to no port at which connections are tracked is of no session
+  -- a TCP segment to no port at which connections are tracked is of no session;
   pub untracked : kind_of (datagram_in e) ≡ Stream → has_tracked_port (datagram_in e) ≡ false → IsUntracked w e
+  -- and a frame between two hosts for which settings fix what they are called gets through, whatever came before
+  pub between : (alias host : Addr) → IsFixed settings e.side (source_of (datagram_in e)) alias
+      → IsFixed settings (other e.side) host (destination_of (datagram_in e)) → GetsThrough whole_rules w e alias host
 
 -- what becomes of an event's segment that a session takes, by what is known before it, and remembered
 pub record SegmentIs (w : World WholeSession) (v : World RememberedSession) (e : Event) (t : Tracked RememberedSession) : Type 0 where
@@ -112,6 +117,8 @@ pub record WorldIs (settings : Settings) (done : List Event) (w : World WholeSes
       → RoundsEnd settings done host t knows had rounds
   -- while a connection lives, both its hosts are reached;
   pub reached : (now : ℕ) → All (λ c. now < c.until.0 → ReachesHosts (at_moment w now).table c) w.connections
+  -- what settings fix is for good: at every moment, whatever frames came, a host and its alias are called each other;
+  pub fixed : (side : Side) (host alias : Addr) → IsFixed settings side host alias → (now : ℕ) → CrossBack (at_moment w now).table side host alias
   -- and a binding that isn't static ends exactly with a use of its own
   pub origins : All (ComesFromUse whole_rules settings done) w.table.entries
 
