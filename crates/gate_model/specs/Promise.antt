@@ -1,5 +1,5 @@
 -- What is promised of the frames of two realms, whatever they are.
-use Rattle.std.specs.Prelude.{◌≡◌, ◌≤◌, ◌<◌, ◌+◌, ◌⊎◌, ℕ, true, false, All, List, [], ◌∷◌, ◌++◌, length, Option, Some, None}
+use Rattle.std.specs.Prelude.{◌≡◌, ◌≤◌, ◌<◌, ◌+◌, ◌-◌, ◌⊎◌, ℕ, true, false, All, List, [], ◌∷◌, ◌++◌, length, Option, Some, None}
 use Rattle.std.specs.List.{fold}
 use Rattle.dialogue.specs.Prelude.{image}
 use Rattle.gate_base.specs.Prelude.{Event, first_that_holds, other}
@@ -10,12 +10,13 @@ use Rattle.gate_base.specs.declared.host.Host.{Host}
 use Rattle.gate_base.specs.declared.side.Side.{Side}
 use Rattle.gate_settings.specs.declared.settings.Settings.{Settings}
 use Rattle.binding_table.specs.Prelude.{is_same}
-use Rattle.twice_translate.specs.Renamed.{renamed}
+use Rattle.twice_translate.specs.Renamed.{datagram_of, renamed}
 use Rattle.gate_model.specs.Called.{CrossBack, IsKeptUntil, AllBefore, header_until, table_by, sent_from, sent_to}
 use Rattle.gate_model.specs.ForGood.{IsFixed, GetsThrough}
 use Rattle.gate_model.specs.Frame.{Dns, Whole, Stream, datagram_in, kind_of}
 use Rattle.gate_model.specs.GoingOn.{streams_of, OnlyRestsWait, HasDataSegment, GoesOnBy, ComesThrough}
 use Rattle.gate_model.specs.Held.{PairCrosses, KeepsLists, ListsCross, KeepsImages}
+use Rattle.gate_model.specs.Octets.{AreOctets, GoesAsItCame, IsReadAs, IsAnswer}
 use Rattle.gate_model.specs.Origins.{ComesFromUse, IsMeant}
 use Rattle.gate_model.specs.Reading.{world_as}
 use Rattle.gate_model.specs.Rounds.{FrameRound, AllFrameRounds, after_frame_rounds}
@@ -64,6 +65,11 @@ pub record FrameIs (settings : Settings) (done : List Event) (w : World WholeSes
   pub renames : verdict whole_rules w e ≡ Pass → IsPlain w e → out whole_rules w e ≡ renaming w e ∷ []
   -- translation is transparent: what passes goes out from an alias, of the realm that it goes to, to a host of that realm;
   pub translated : verdict whole_rules w e ≡ Pass → IsTranslated whole_rules w e
+  -- each datagram that goes out has a lifetime less by 1 (RFC 791, 3.2);
+  pub lifetimes : verdict whole_rules w e ≡ Pass → All (λ octets. (datagram_of octets).lifetime ≡ (datagram_in e).lifetime - 1) (out whole_rules w e)
+  -- whoever gets what goes out as it came reads in its octets between which addresses it goes, and what was sent;
+  pub octets : verdict whole_rules w e ≡ Pass → GoesAsItCame w e → AreOctets e.octets → (sent : List ℕ) × (out whole_rules w e ≡ sent ∷ [])
+      × IsReadAs sent (datagram_in e) (sent_from whole_rules w e).0 (sent_to whole_rules w e).0
   -- a DNS message over UDP goes out with what the addresses that it names are called;
   pub named : verdict whole_rules w e ≡ Pass → kind_of (datagram_in e) ≡ Whole Dns → NamesAreCalled whole_rules w e × GoesOutCalled whole_rules w e
   -- a frame reaches a host only by a binding that is static, or that a frame has used until a moment that isn't over;
@@ -127,6 +133,8 @@ pub record LaterIs (w : World WholeSession) (e : Event) (between : List Event) (
   -- while the frame keeps an address, that is called as it was, everybody reaches it so, and nobody else is called so;
   pub aliases : (address : Addr) (until : ℕ) → IsKeptUntil whole_rules w e address until → AllBefore until between → x.moment < until
       → KeepsAlias whole_rules w e address v x
+  -- whoever answers what is read in the octets that went out replies to it;
+  pub answers : (sent : List ℕ) → GoesAsItCame w e → AreOctets e.octets → out whole_rules w e ≡ sent ∷ [] → IsAnswer sent e x → IsReply whole_rules w e x
   -- while its header keeps its addresses, a reply to it comes back;
   pub replies : IsReply whole_rules w e x → AllBefore (header_until whole_rules w e) between → x.moment < header_until whole_rules w e
       → ComesBack whole_rules e v x
