@@ -1,6 +1,6 @@
 -- That translation is transparent: nothing goes out under an address of the wrong realm, an alias means one host at a time, and replies
 -- come back (RFC 2663, RFC 4787, RFC 5382, RFC 5508).
-use Rattle.std.specs.Prelude.{◌≡◌, ◌⊎◌, Bool, true, false, if◌then◌else◌, All, List, [], ◌∷◌, ◌++◌, Option, Some, None, IfSome}
+use Rattle.std.specs.Prelude.{◌≡◌, ◌⊎◌, Bool, true, false, if◌then◌else◌, map, All, List, [], ◌∷◌, ◌++◌, Option, Some, None, IfSome, option_and_then}
 use Rattle.gate_base.specs.Prelude.{Event, other, is_unicast_number}
 use Rattle.verdicts.specs.Prelude.{first_that_holds}
 use Rattle.gate_base.specs.declared.address.Addr.{Addr}
@@ -9,12 +9,12 @@ use Rattle.verdicts.specs.declared.refusal.Refusal.{Refusal}
 use Rattle.verdicts.specs.declared.refusal.Refusal.TheVariants.{SessionsFull}
 use Rattle.gate_base.specs.declared.side.Side.{Side}
 use Rattle.binding_table.specs.Prelude.{Bindings, is_same, in_pool, seen, needed, image_after}
-use Rattle.icmp_errors.specs.Inner.{inner_fields}
-use Rattle.twice_translate.specs.Renamed.{renamed}
+use Rattle.icmp_errors.specs.Inner.{inner_fields, inner_with}
+use Rattle.twice_translate.specs.Renamed.{renamed, with_payload}
 use Rattle.gate_model.specs.Called.{table_by, called_by, sent_from, sent_to, CrossBack}
-use Rattle.gate_model.specs.Frame.{Udp, Echo, Kind, Whole, Stream, datagram_in, header_tests, datagram_tests, transport_tests, kind_of}
-use Rattle.gate_model.specs.Inner.{inside, inner_session, is_inner_unbound}
-use Rattle.gate_model.specs.Names.{message_in, named_in}
+use Rattle.gate_model.specs.Frame.{Udp, Echo, Error, Kind, Whole, Stream, datagram_in, header_tests, datagram_tests, transport_tests, kind_of}
+use Rattle.gate_model.specs.Inner.{inside, inner_session, inner_number, is_inner_unbound, with_inside}
+use Rattle.gate_model.specs.Names.{message_in, named_in, carried, reply_by}
 use Rattle.gate_model.specs.Rules.{SessionRules}
 use Rattle.gate_model.specs.Step.{out}
 use Rattle.gate_model.specs.Stream.{found_in, has_tracked_port, session_in, is_full}
@@ -35,18 +35,24 @@ pub record IsTranslated {S : Type 0} (rules : SessionRules S) (w : World S) (e :
 
 -- ## While a frame keeps an address
 
+-- what a later frame finds of an address of a realm and of what that is called in the other one: if the address is a host's,
+pub record MeansOne {S : Type 0} (rules : SessionRules S) (side : Side) (address image : Addr) (v : World S) (x : Event) : Type 0 where
+  -- whatever the host sends, and to whomever, goes out from the same alias (endpoint-independent mapping: RFC 4787, REQ-1; RFC 5382, REQ-1);
+  pub maps : x.side ≡ side → source_of (datagram_in x) ≡ address → sent_from rules v x ≡ image
+  -- whoever sends to the alias reaches the host (endpoint-independent filtering: RFC 4787, REQ-8; RFC 5382, REQ-3);
+  pub reaches : in_pool (at_moment v x.moment).table side address ≡ false → is_unicast_number address.0 ≡ true → x.side ≡ other side
+      → destination_of (datagram_in x) ≡ image
+      → (is_reachable (at_moment v x.moment).table x.side (destination_of (datagram_in x)) ≡ true) × (sent_to rules v x ≡ address)
+  -- and what another host sends doesn't go out from it
+  pub alone : x.side ≡ side → verdict rules v x ≡ Pass → sent_from rules v x ≡ image → source_of (datagram_in x) ≡ address
+
 -- what a later frame finds of an address that a frame keeps, and of what it is called:
 pub record KeepsAlias {S : Type 0} (rules : SessionRules S) (w : World S) (e : Event) (address : Addr) (v : World S) (x : Event) : Type 0 where
   -- each is called the other;
   pub crosses : CrossBack (at_moment v x.moment).table e.side address (called_by rules w e address)
-  -- whatever the host sends, and to whomever, goes out from the same alias (endpoint-independent mapping: RFC 4787, REQ-1; RFC 5382, REQ-1);
-  pub maps : x.side ≡ e.side → source_of (datagram_in x) ≡ address → sent_from rules v x ≡ called_by rules w e address
-  -- whoever sends to a host's alias reaches the host (endpoint-independent filtering: RFC 4787, REQ-8; RFC 5382, REQ-3);
-  pub reaches : in_pool (at_moment v x.moment).table e.side address ≡ false → is_unicast_number address.0 ≡ true → x.side ≡ other e.side
-      → destination_of (datagram_in x) ≡ called_by rules w e address
-      → (is_reachable (at_moment v x.moment).table x.side (destination_of (datagram_in x)) ≡ true) × (sent_to rules v x ≡ address)
-  -- and what another host sends doesn't go out from it
-  pub alone : x.side ≡ e.side → verdict rules v x ≡ Pass → sent_from rules v x ≡ called_by rules w e address → source_of (datagram_in x) ≡ address
+  -- each means one host: the address where it is a host's of the frame's realm, and what it is called where that is a host's of the other one
+  pub own : MeansOne rules e.side address (called_by rules w e address) v x
+  pub far : MeansOne rules (other e.side) (called_by rules w e address) address v x
 
 -- what a DNS message over UDP names goes out as it is called, and what means the same host in both realms as it is
 abbrev pub NamesAreCalled : {S : Type 0} → SessionRules S → World S → Event → Type 0
@@ -54,6 +60,13 @@ NamesAreCalled rules w e =
     let table = (at_moment w e.moment).table in
     All (λ a. image_after table (table_by rules w e) e.side a ≡ (if is_same table a then None else Some (called_by rules w e a)))
     (named_in (message_in (datagram_in e)))
+
+-- so it goes out, renamed by that
+abbrev pub GoesOutCalled : {S : Type 0} → SessionRules S → World S → Event → Type 0
+GoesOutCalled rules w e =
+    let d = datagram_in e in
+    let images = map (λ a. if is_same (at_moment w e.moment).table a then None else Some (called_by rules w e a)) (named_in (message_in d)) in
+    out rules w e ≡ renamed (with_payload d (reply_by images (carried d) (message_in d))) (sent_from rules w e).0 (sent_to rules w e).0 ∷ []
 
 -- ## Replies
 
@@ -116,6 +129,11 @@ pub record ComesHome {S : Type 0} (rules : SessionRules S) (e : Event) (v : Worl
   -- and where no session is asked for a number, they are no reason to refuse it
   pub bound : inner_session (at_moment v r.moment) r.side (inner_fields (inside (datagram_in r))) ≡ None
       → is_inner_unbound rules (at_moment v r.moment) r.side (inner_fields (inside (datagram_in r))) ≡ false
+  -- if it passes, it goes out with them inside
+  pub sent : kind_of (datagram_in r) ≡ Whole Error → verdict rules v r ≡ Pass → let octets = inside (datagram_in r) in
+      out rules v r ≡ renamed (with_inside (datagram_in r) (inner_with octets (datagram_in e).source (datagram_in e).destination
+      (option_and_then (λ number. number) (inner_number rules (at_moment v r.moment) r.side (inner_fields octets)))))
+      (sent_from rules v r).0 (sent_to rules v r).0 ∷ []
 
 -- ## Connections
 

@@ -43,6 +43,7 @@ ghost use Rattle.gate_model.specs.Verdict.{timeout_by};
 ghost use Rattle.gate_model.specs.declared.timeouts.TheConstants.{NAMED_TIMEOUT};
 ghost use Rattle.gate_model.specs.Called.{IsKeptUntil, AllBefore, header_until, least_seconds};
 ghost use Rattle.gate_model.specs.Transparent.{IsTranslated, KeepsAlias, NamesAreCalled, IsReply, ComesBack, IsAbout, ComesHome, IsUntracked, ReachesHosts};
+ghost use Rattle.gate_model.specs.Sifted.{Rise, passing, all_out};
 ghost use Rattle.gate_model.specs.Origins.{ComesFromUse, IsMeant};
 
 /// A frame that is refused gives no datagram, and moves the clock alone.
@@ -376,4 +377,12 @@ pub fn frames_are_as_promised()
         → IsSound settings
         → HasForms settings
         → Promised settings events }
+{}
+
+/// As long as moments don't fall, the frames that pass give by themselves what all give: each datagram at its event. Those that are
+/// refused leave no trace.
+pub fn refused_frames_are_nothing<S>()
+    ensures { (rules : SessionRules S) (w : World S) (moment : ℕ) (events : List Event)
+        → Rise moment events
+        → all_out rules w events ≡ all_out rules w (passing rules w events) }
 {}
