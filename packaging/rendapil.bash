@@ -4,13 +4,13 @@ _rendapil() {
     local commands="run audit make check explain try plan compare export test"
     [ ! -e "$(dirname "$(readlink -f "$(type -P "$1")")")/crates.txt" ] || commands+=" build prove"
     if [ "$cword" -eq 1 ]; then
-        mapfile -t COMPREPLY < <(compgen -W "$commands help --help --version --program --quiet" -- "$cur")
+        mapfile -t COMPREPLY < <(compgen -W "$commands help --help --version --program --quiet --untag" -- "$cur")
         return
     fi
     case "${words[1]} $cur" in
     "explain -"*) mapfile -t COMPREPLY < <(compgen -W "--statics --json --events --settings --html --pcapng --payloads --help" -- "$cur") ;;
     "try -"*) mapfile -t COMPREPLY < <(compgen -W "--left --same --pool --keep-sums --keep-cut --out --help" -- "$cur") ;;
-    "plan -"*) mapfile -t COMPREPLY < <(compgen -W "--left --right --no-same --out --help" -- "$cur") ;;
+    "plan -"*) mapfile -t COMPREPLY < <(compgen -W "--left --right --no-same --write --out --html --rehearse --help" -- "$cur") ;;
     "compare -"*) mapfile -t COMPREPLY < <(compgen -W "--left --right --left-mac --right-mac --clocks --window --any-ttl --any-port --lossy --keep --json --help" -- "$cur") ;;
     "export -"*) mapfile -t COMPREPLY < <(compgen -W "--left --right --left-via --right-via --table --help" -- "$cur") ;;
     "check -"*) mapfile -t COMPREPLY < <(compgen -W "--brief --help" -- "$cur") ;;
