@@ -345,7 +345,8 @@ FRAME = """# What you have to believe
 
 The prover shows that the code does what definitions say. Whether these say what a gateway has to do, no proof can tell: you read them. This page says
 what there is to read, and how much. `tools/trusted.py >docs/TRUSTED.md` writes it, and `tests/run` fails where it isn't current.
-[PROVED](PROVED.md) says what is proved in words, and what else is trusted.
+[PROVED](PROVED.md) says what is proved in words, and what else is trusted. The [page of each crate](../crates/README.md) explains the words of its
+definitions.
 
 ## Read these first
 
