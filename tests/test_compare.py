@@ -10,9 +10,13 @@ import sys
 import tempfile
 import unittest
 from collections.abc import Callable
+from importlib.util import find_spec
+from ipaddress import IPv4Address
 from unittest import mock
 
-from testing import CASE, COMPARE, PROGRAM
+from testing import CASE, COMPARE, PROGRAM, RIGHT
+
+from datagrams import udp
 
 from rendapil.comparing import command as comparing
 from rendapil.comparing.causes import BY_RIGHT, DIFFERENT, UNSURE, payload, service
@@ -21,6 +25,8 @@ from rendapil.files import Capture
 from rendapil.packet import Packet
 
 SETTINGS, CAME, WENT = CASE[0], CASE[1:3], CASE[3:5]
+HAS_JINJA = bool(find_spec("jinja2")) or not subprocess.run(["/usr/bin/python3", "-I", "-c", "import jinja2, tomllib"], stderr=subprocess.DEVNULL).returncode
+SHORT = RIGHT + 'static = [{ side = "right", host = "10.0.0.5", alias = "192.168.200.1" }]\n'
 LATE = 30_000
 """How long the device of these tests keeps a frame, in nanoseconds."""
 
@@ -59,6 +65,12 @@ def put(datagram: bytes, at: int, octets: bytes) -> bytes:
     packet = Packet(bytes(packet.octets))
     packet.mend()
     return bytes(packet.octets)
+
+
+def renamed(datagram: bytes, source: str, destination: str) -> bytes:
+    """A datagram with other addresses, and a lifetime less by 1."""
+    ends = IPv4Address(source).packed + IPv4Address(destination).packed
+    return put(datagram[:8] + bytes([datagram[8] - 1]) + datagram[9:], 12, ends)
 
 
 def with_payload(datagram: bytes, new: bytes) -> bytes:
@@ -135,6 +147,62 @@ class Equal(Compared):
         for frames in (self.came, self.went):
             frames[1] = [(moment + 7_250_000_000, one) for moment, one in frames[1]]
         self.holds([])
+
+    def test_a_clock_that_drifts(self) -> None:
+        """It gains more than a frame may stay in the device."""
+        begin = self.came[1][0][0]
+        for frames in (self.came, self.went):
+            frames[1] = [(moment + (moment - begin) // 9, one) for moment, one in frames[1]]
+        self.assertGreater(self.came[1][-1][0] - read(CAME[1])[-1][0], 2_500_000_000)
+        self.holds([])
+
+    def test_left_and_right_swapped(self) -> None:
+        """It is said at once, and how to mend it."""
+        self.came, self.went = self.came[::-1], self.went[::-1]
+        names = ("left-in", "right-in", "left-out", "right-out")
+        files = [self.file(name, pcap(frames)) for name, frames in zip(names, self.came + self.went)]
+        with contextlib.redirect_stderr(io.StringIO()) as told:
+            self.assertEqual(said(self.settings, *files), (2, {}))
+        self.assertIn("left and right are swapped: each capture has the aliases of the other link. Name the other one first", told.getvalue())
+
+    def test_an_alias_that_changes_hands(self) -> None:
+        """A host that is silent for a day loses its alias to another one: each time is compared by itself. Side by side that is a contradiction."""
+        day = 86_400 * 10**9
+        far, near = "192.168.200.1", self.came[0][0][0]
+        for apart, wanted in ((day, []), (10**6, ["one alias stands for two hosts"])):
+            calls = [(number, udp(f"10.0.0.{90 + number % 2}", 4000 + number, far, 4001, b"%d" % number)) for number in range(40)]
+            order = sorted(calls, key=lambda one: one[0] % 2) if apart == day else calls
+            self.came = [[(near + place * 10**8 + (apart if number % 2 else 0), one) for place, (number, one) in enumerate(order)], []]
+            self.went = [[], [(moment + LATE, renamed(one, "172.16.9.77", "10.0.0.5")) for moment, one in self.came[0]]]
+            self.settings = self.file("settings.toml", SHORT.encode())
+            status, told = self.compared()
+            self.assertEqual((status, [one for one in told[DIFFERENT] if "one alias" in one]), (int(bool(wanted)), wanted), told)
+
+    def test_json_lines(self) -> None:
+        """A line with the counts, and one for each cause."""
+        self.change(0, 5, put(self.went[0][5][1], 12, b"\x0a\x00\x00\x63"))
+        names = ("left-in", "right-in", "left-out", "right-out")
+        files = [self.file(name, pcap(frames)) for name, frames in zip(names, self.came + self.went)]
+        done = subprocess.run([*COMPARE, self.settings, *files, "--json-lines", "--program", PROGRAM], stdout=subprocess.PIPE, check=False)
+        first, *others = map(json.loads, done.stdout.splitlines())
+        self.assertEqual((done.returncode, first["event_type"], first["differs"]), (1, "compared", True))
+        self.assertEqual({one["event_type"] for one in others}, {"cause"})
+        self.assertTrue(all(one["count"] and one["first_time"].endswith("Z") for one in others))
+
+    @unittest.skipUnless(HAS_JINJA, "there is no python3-jinja2")
+    def test_page(self) -> None:
+        """Each cause has its count and its picture, lines of FTP stand beside each other, and nothing goes in unescaped."""
+        place = self.place(1, lambda one: service(one) == "FTP" and payload(one).startswith(b"USER "))
+        self.change(1, place, with_payload(self.went[1][place][1], b"<script>" + payload(self.went[1][place][1])[8:]))
+        names = ("left-in", "right-in", "left-out", "right-out")
+        files = [self.file(name, pcap(frames)) for name, frames in zip(names, self.came + self.went)]
+        page = f"{self.room.name}/page.html"
+        self.assertEqual(subprocess.run([*COMPARE, self.settings, *files, "--html", page, "--program", PROGRAM], stdout=subprocess.DEVNULL, check=False).returncode, 1)
+        with open(page, encoding="utf-8") as file:
+            text = file.read()
+        self.assertNotIn("<script", text)
+        self.assertRegex(text, '<svg class="times".*<rect')
+        self.assertRegex(text, '<tr class="differs"><td>USER [^<]*</td><td class="device">&lt;script&gt;')
 
     def test_sums_left_to_the_card(self) -> None:
         """Segments whose checksum is that of the pseudo header, as offloading leaves it."""

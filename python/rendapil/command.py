@@ -42,6 +42,7 @@ HELP = f"""usage: rendapil [--quiet] [--untag] COMMAND WORDS
   plan LEFT RIGHT [OPTIONS]                       two networks before a merger: what overlaps, which settings they need, and what will break
   compare SETTINGS CAPTURE.. [OPTIONS]            says what a real device does otherwise, by its captures
   export KIND SETTINGS [OPTIONS]                  writes the rules for a Linux gateway: nftables, iproute2
+  import nftables RULES                           writes settings of such rules
   test                                            tests the program and the tools
 {BUILDS}  --version | --program                           which program this is; where it is
   COMMAND --help                                  more about a command
@@ -79,6 +80,7 @@ TOOLS = {
     "plan": "rendapil.planning.command",
     "compare": "rendapil.comparing.command",
     "export": "rendapil.exporting.command",
+    "import": "rendapil.exporting.importing",
 }
 """The commands that are tools of their own, and take any words, each with its module."""
 

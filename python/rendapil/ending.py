@@ -2,6 +2,7 @@
 import os
 import sys
 from collections.abc import Callable
+from contextlib import suppress
 from typing import NoReturn
 
 from rendapil.files import escape_output, shown, unforeseen
@@ -33,3 +34,20 @@ def ended(name: str, work: Callable[[], int], status: int = 1, file: str = "stan
         fail(name, "out of memory", status)
     except Exception as error:  # noqa: BLE001: no traceback has what stands in a capture
         fail(name, unforeseen(error), status)
+
+
+def put_in_place(path: str, text: str) -> None:
+    """Writes a file whole, or not at all."""
+    if os.path.exists(path) and not os.path.isfile(path):  # a device or a pipe
+        with open(path, "w", encoding="utf-8") as file:
+            file.write(text)
+        return
+    new = f"{path}.new"
+    try:
+        with open(new, "w", encoding="utf-8") as file:
+            file.write(text)
+        os.replace(new, path)
+    except OSError:
+        with suppress(OSError):
+            os.remove(new)
+        raise

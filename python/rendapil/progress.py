@@ -2,8 +2,26 @@
 import os
 import subprocess
 import sys
+import time
+
+from rendapil import sayings
+from rendapil.sayings import shown
 
 LINE = "\n\033[Kleft {}, right {}, {:.0f} MB/s\033[A\r"
+
+
+class Progress:
+    """How many of something a tool has done: once a second, where somebody looks on."""
+
+    def __init__(self, name: str, what: str) -> None:
+        self._text, self._next = f"rendapil {name}: {{:,}} {shown(what)}", time.monotonic() + 1
+        self._is_shown = sys.stderr.isatty() and not sayings.QUIET
+
+    def tell(self, number: int) -> None:
+        """Tells it."""
+        if not number & 0xFFF and self._is_shown and time.monotonic() >= self._next:
+            self._next = time.monotonic() + 1
+            print(f"\r\033[K{self._text.format(number)}\r", end="", file=sys.stderr, flush=True)
 
 
 def place_of(process: int, path: str) -> int | None:

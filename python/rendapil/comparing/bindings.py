@@ -2,17 +2,21 @@
 and settings with the device's own aliases, by which the reference runs."""
 import struct
 from collections import Counter
-from collections.abc import Iterator
+from collections.abc import Iterable, Iterator
 from dataclasses import dataclass, field
 from ipaddress import IPv4Address
+from zlib import crc32
 
 from rendapil.bindings import SECOND, SIDES, TCP, UDP, Blocks, pool_of
-from rendapil.comparing.captures import Joiner, Links
+from rendapil.comparing.captures import Bare, Joiner, Links
 from rendapil.packet import ICMP, is_host
 from rendapil.settings_text import oid_table, pool_table, same_line, static_table
 
 SAMPLE, APART = 20_000, 2 * SECOND
-"""The most frames by which two clocks are compared, and how long a frame may stay in the device while its hosts are learnt."""
+"""About how many frames show how two clocks stand, and how long a frame may stay in the device while its hosts are learnt."""
+
+PARTS, DRIFTED = 16, SECOND // 5
+"""Into how many parts of time captures are cut to see a drift, and from which drift on it is followed."""
 
 NANOSECONDS, CHUNK = b"\x4d\x3c\xb2\xa1", 1 << 22
 """The first bytes of such a capture, and how much of it is read at once."""
@@ -74,29 +78,73 @@ def frames(path: str) -> Iterator[tuple[int, bytes]]:
 # Two clocks.
 
 
-def passages(came: str, went: str) -> list[int]:
-    """How long frames took from one side to the other, by the clocks of both. Only those that can't be mistaken are counted."""
+@dataclass
+class Clock:
+    """By how much the right link's clock is ahead at a moment, and how much it gains in a nanosecond from then on."""
+
+    begin: int = 0
+    ahead: int = 0
+    gain: float = 0.0
+
+    def at(self, moment: int) -> int:
+        """By how much it is ahead at a moment of its own."""
+        return self.ahead + round(self.gain * (moment - self.begin))
+
+    def __bool__(self) -> bool:
+        return bool(self.ahead or self.gain)
+
+
+def passages(came: Bare, went: Bare, side: int) -> list[tuple[int, int]]:
+    """How long frames from a side took to the other one, by the clocks of both, each with its moment by the right one. Of many frames those with some
+    octets count, and only those that can't be mistaken."""
+    share = max(1, len(came.numbers) // SAMPLE)
     seen: dict[bytes, int | None] = {}
-    for _, (moment, datagram) in zip(range(SAMPLE), whole_frames(came)):
+    for moment, datagram in whole_frames(came.path):
         key = identity(datagram)
-        seen[key] = None if key in seen else moment
-    found: dict[bytes, int | None] = {}
-    for _, (moment, datagram) in zip(range(SAMPLE), frames(went)):
+        if not crc32(key) % share:
+            seen[key] = None if key in seen else moment
+    found: dict[bytes, tuple[int, int] | None] = {}
+    for moment, datagram in frames(went.path):
         key = identity(datagram)
         if (came_at := seen.get(key)) is not None:
-            found[key] = None if key in found else moment - came_at
-    return sorted(one for one in found.values() if one is not None)
+            found[key] = None if key in found else (came_at if side else moment, moment - came_at)
+    return sorted(one for one in found.values() if one)
 
 
-def clocks_apart(links: Links) -> int:
-    """By how much the right side's clock is ahead of the left one's, if frames seem to go out before they came. Else nothing."""
-    ways = [passages(links.came[side].path, links.went[1 - side].path) for side in (0, 1)]
+def middle(values: Iterable[int]) -> int:
+    """The median, the upper one of two."""
+    known = sorted(values)
+    return known[len(known) // 2]
+
+
+def clock_of(links: Links) -> Clock:
+    """How the right side's clock stands to the left one's, if frames seem to go out before they came, or if it drifts by more than a frame may take.
+    Without that, they are one clock."""
+    ways = [passages(links.came[side], links.went[1 - side], side) for side in (0, 1)]
     if not all(ways):
-        known = ways[0] or ways[1]
-        middle = known[len(known) // 2] if known else 0
-        return 0 if middle >= 0 else middle if ways[0] else -middle
-    there, back = (way[len(way) // 2] for way in ways)
-    return 0 if min(there, back) >= 0 else (there - back) // 2
+        known, sign = (ways[0], 1) if ways[0] else (ways[1], -1)
+        delay = middle(one for _, one in known) if known else 0
+        return Clock(0, min(delay, 0) * sign)
+    (at, there, gain), (back_at, back, loss) = map(line_through, ways)
+    back += round(loss * (at - back_at))
+    span = max(way[-1][0] for way in ways) - min(way[0][0] for way in ways)
+    if abs(gain - loss) / 2 * span > DRIFTED and abs(gain + loss) * 4 < abs(gain - loss):
+        return Clock(at, (there - back) // 2, (gain - loss) / 2)
+    return Clock() if min(there, back) >= 0 else Clock(at, (there - back) // 2)
+
+
+def line_through(points: list[tuple[int, int]]) -> tuple[int, int, float]:
+    """The line along which points lie, by the medians of its parts: a place, the value there, and the slope. No slope where there are few points."""
+    size = max(1, len(points) // PARTS)
+    parts = [points[place : place + size] for place in range(0, len(points) - size + 1, size)]
+    at, value = middle(x for x, _ in points), middle(y for _, y in points)
+    if len(points) < 4 * PARTS:
+        return at, value, 0.0
+    ends = [(middle(x for x, _ in part), middle(y for _, y in part)) for part in parts]
+    slopes = sorted((other[1] - one[1]) / max(1, other[0] - one[0]) for one in ends for other in ends if one[0] < other[0])
+    slope = slopes[len(slopes) // 2] if slopes else 0.0
+    known = sorted(y - slope * (x - at) for x, y in ends)
+    return at, round(known[len(known) // 2]), slope
 
 
 # Who is called what.
@@ -113,6 +161,8 @@ class Learnt:
     chosen: dict[tuple[int, int], int] = field(default_factory=dict)
     fixed: set[tuple[int, int]] = field(default_factory=set)
     first: dict[tuple[int, int], int] = field(default_factory=dict)
+    spans: dict[tuple[int, int, int], list[int]] = field(default_factory=dict)
+    """When the first and the last frame were that had this alias."""
 
     def learn(self, links: Links, has_ports: bool) -> None:
         """Looks at all four captures."""
@@ -158,13 +208,34 @@ class Learnt:
     def _vote(self, side: int, moment: int, came: bytes, went: bytes) -> None:
         """Takes a frame: its source's alias, and whose alias its destination is."""
         host, alias, far_alias, far_host = (int.from_bytes(part) for part in (came[:4], went[:4], came[4:], went[4:]))
-        self.votes[side, host, alias] += 1
-        self.votes[1 - side, far_host, far_alias] += 1
-        for one in ((side, host), (1 - side, far_host)):
-            self.first[one] = min(moment, self.first.get(one, moment))
+        for key in ((side, host, alias), (1 - side, far_host, far_alias)):
+            self.votes[key] += 1
+            span = self.spans.get(key)
+            if not span:
+                self.spans[key] = [moment, moment]
+            elif moment > span[1]:
+                span[1] = moment
+            elif moment < span[0]:
+                span[0] = moment
+
+    def changes(self) -> list[tuple[int, int]]:
+        """When aliases changed hands, or hosts their alias: each between the last frame with the old one and the first with the new one. Those that were in
+        use side by side are contradictions, and aren't in it."""
+        holders: dict[tuple[str, int, int], list[list[int]]] = {}
+        for (side, host, alias), span in self.spans.items():
+            if self.votes[side, host, alias] >= FEW and host != alias:
+                holders.setdefault(("alias", side, alias), []).append(span)
+                holders.setdefault(("host", side, host), []).append(span)
+        found = []
+        for spans in holders.values():
+            spans.sort()
+            found += [(one[1], other[0]) for one, other in zip(spans, spans[1:]) if one[1] < other[0]]
+        return sorted(set(found), key=lambda one: one[1])
 
     def choose(self, settings: dict) -> None:
         """Chooses one alias for each host, that of the most frames, and tells where the device contradicts itself or the settings."""
+        for (side, host, _), (first_seen, _) in self.spans.items():
+            self.first[side, host] = min(first_seen, self.first.get((side, host), first_seen))
         same = Blocks(settings.get("same", []))
         pools = [pool_of(settings, side) for side in SIDES]
         fixed = {(SIDES.index(row["side"]), int(IPv4Address(row["host"]))): int(IPv4Address(row["alias"])) for row in settings.get("static", [])}

@@ -1,16 +1,19 @@
 """The captures of a real device's two links, as they come: each direction by itself, or both in one file, as pcap or pcapng. They become four captures
 of bare datagrams, what came in and what went out on each side, of which the first two are inputs for a run."""
+import copy
+import heapq
 import os
 import struct
 from array import array
 from collections import Counter
-from collections.abc import Iterable
+from collections.abc import Callable, Iterable, Iterator
 from dataclasses import dataclass, field
 
 from rendapil.any_capture import IN, LOCAL, OUT, UNKNOWN, Record, datagram_in, with_length
 from rendapil.bindings import SECOND, SIDES, TCP, UDP, Blocks, pool_of
 from rendapil.files import ETHERNET, bare_head, record_head
 from rendapil.packet import ICMP, Packet, header_sum
+from rendapil.progress import Progress
 from rendapil.readers import records
 
 FOUR = struct.Struct(">4H")
@@ -154,6 +157,9 @@ class Links:
         same = Blocks(settings.get("same", []))
         self.realms = [Realm(side, *pool_of(settings, SIDES[side]), same, set(macs[side])) for side in (0, 1)]
         self.left_out: Counter[str] = Counter()
+        self.of_own, self.of_other = [0, 0], [0, 0]
+        """By side, how many of its first frames are to or from an alias of its link, and of the other one's alone."""
+
         self.mended: Counter[str] = Counter()
         self.came, self.went = ([Bare(os.path.join(room, f"{side}-{way}.pcap"), "") for side in SIDES] for way in ("in", "device-out"))
 
@@ -174,13 +180,19 @@ class Links:
         files = self.came[side], self.went[side]
         for file, way in zip(files, (IN, OUT)):
             file.name = path if only in (UNKNOWN, way) else file.name
+        told = Progress("compare", f"frames of {os.path.basename(path)} are read")
         for number, record in enumerate(frames, 1):
+            told.tell(number)
             if interface and record.interface != interface:
                 continue
             datagram, why = bare(record)
             if why:
                 self.left_out[f"{why}, on the {SIDES[side]}"] += 1
                 continue
+            if number <= LOOKED_AT:
+                own, other = (any(map(one.is_far, (datagram[12:16], datagram[16:20]))) for one in (realm, self.realms[1 - side]))
+                self.of_own[side] += own
+                self.of_other[side] += other and not own
             way = only if only != UNKNOWN else realm.way(record, datagram)
             if way == LOCAL:
                 self.left_out[f"neither to nor from the device, on the {SIDES[side]}"] += 1
@@ -193,24 +205,82 @@ class Links:
                 continue
             files[way].put(record.moment, number, datagram)
 
+    def are_swapped(self) -> bool:
+        """Whether each capture has the aliases of the other link, and neither those of its own."""
+        mine, theirs = (count for count in (self.of_own, self.of_other))
+        return all(theirs[side] > 10 * mine[side] for side in (0, 1) if mine[side] or theirs[side]) and any(theirs)
+
+    def quiet_moments(self, spans: list[tuple[int, int]]) -> list[int]:
+        """A moment in each span, in the middle of its longest silence. Spans that have a moment already get no other."""
+        moments = heapq.merge(*(moments_of(file.path) for file in self.came + self.went))
+        best = [(0, last) for _, last in spans]
+        before = 0
+        for moment in moments:
+            for place, (first, last) in enumerate(spans):
+                if first < moment and before < last:
+                    silence = min(moment, last) - max(before, first)
+                    best[place] = max(best[place], (silence, min(moment, last) - silence // 2))
+            before = moment
+        found: list[int] = []
+        for (first, last), (_, at) in zip(spans, best):
+            if not any(first < one <= last for one in found):
+                found.append(at)
+        return sorted(found)
+
+    def parts(self, cuts: list[int], room: str) -> "list[Links]":
+        """The captures cut at these moments."""
+        found = []
+        for number, (begin, end) in enumerate(zip([0, *cuts], [*cuts, 1 << 63])):
+            folder = os.path.join(room, f"part-{number}")
+            os.makedirs(folder, exist_ok=True)
+            part = copy.copy(self)
+            part.came, part.went = ([cut_out(file, folder, begin, end) for file in files] for files in (self.came, self.went))
+            found.append(part)
+        return found
+
     def close(self) -> None:
         """Writes the rest of all four."""
         for file in self.came + self.went:
             file.close()
 
 
-def shifted(file: Bare, by: int) -> None:
-    """Moves all stamps of a capture."""
+def moments_of(path: str) -> Iterator[int]:
+    """The stamps of a capture of bare datagrams."""
+    with open(path, "rb", 1 << 18) as file:
+        file.seek(24)
+        while len(head := file.read(16)) == 16:
+            seconds, fraction, size = struct.unpack_from("<3I", head)
+            file.seek(size, os.SEEK_CUR)
+            yield seconds * SECOND + fraction
+
+
+def cut_out(file: Bare, folder: str, begin: int, end: int) -> Bare:
+    """The frames of a capture from one moment to another."""
+    part = Bare(os.path.join(folder, os.path.basename(file.path)), file.name)
+    with open(file.path, "rb", 1 << 18) as octets:
+        octets.seek(24)
+        for number in file.numbers:
+            seconds, fraction, size, _ = struct.unpack("<4I", octets.read(16))
+            moment, datagram = seconds * SECOND + fraction, octets.read(size)
+            if begin <= moment < end:
+                part.put(moment, number, datagram)
+    part.close()
+    return part
+
+
+def shifted(file: Bare, by: Callable[[int], int]) -> None:
+    """Moves all stamps of a capture, each by what it is moved by."""
     with open(file.path, "r+b") as octets:
         whole = bytearray(octets.read())
         at = 24
         while at + 16 <= len(whole):
             seconds, fraction, size = struct.unpack_from("<3I", whole, at)
-            struct.pack_into("<2I", whole, at, *divmod(seconds * SECOND + fraction + by, SECOND))
+            moment = seconds * SECOND + fraction
+            struct.pack_into("<2I", whole, at, *divmod(max(0, moment + by(moment)), SECOND))
             at += 16 + size
         octets.seek(0)
         octets.write(whole)
-    file.first, file.last = file.first + by, file.last + by
+    file.first, file.last = (moment + by(moment) for moment in (file.first, file.last))
 
 
 def ports(datagram: bytes) -> bytes:

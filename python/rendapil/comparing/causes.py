@@ -2,10 +2,12 @@
 import re
 import struct
 from collections.abc import Callable, Iterable
-from dataclasses import dataclass
+from collections import Counter
+from dataclasses import dataclass, field
 from ipaddress import IPv4Address
+from typing import NamedTuple
 
-from rendapil.bindings import TCP, UDP
+from rendapil.bindings import SECOND, TCP, UDP
 from rendapil.comparing.bindings import identity
 from rendapil.comparing.captures import ports
 from rendapil.comparing.match import Came, Due, Match, Sent, is_tracked, mended
@@ -21,12 +23,57 @@ ERRORS = {3: "destination unreachable", 4: "source quench", 5: "redirect", 11: "
 PASSED = {"NoBinding", "SourceInPool", "BadSum", "BadHeaderSum", "NotUnicast", "TtlSpent", "BadHeader"}
 """The refusals of the reference that a device has to share. In the others it may know more, or less, than the reference."""
 
-SHOWN = 160
+SHOWN, MOST_SPANS, MOST_LADDERS = 160, 400, 40
+"""How much of a text is shown, and the most spans of time of a cause, and ladders, that are kept."""
+
+
+@dataclass
+class Times:
+    """How many frames of a cause there were in each span of time. The spans grow, so that there are few."""
+
+    span: int = SECOND // 1000
+    counts: Counter[int] = field(default_factory=Counter)
+
+    def add(self, moment: int, count: int) -> None:
+        """Takes frames of a moment."""
+        self.counts[moment // self.span] += count
+        if len(self.counts) > MOST_SPANS:
+            self.span *= 2
+            old, self.counts = self.counts, Counter()
+            for place, many in old.items():
+                self.counts[place // 2] += many
+
+
+class Rung(NamedTuple):
+    """A line or message of a connection: as it came, as the device sent it on, and as the reference does."""
+
+    came: str
+    device: str
+    reference: str
+
+    @property
+    def is_equal(self) -> bool:
+        """Whether both sent the same."""
+        return self.device == self.reference
+
+
+@dataclass
+class Ladder:
+    """What one host of a connection said, line by line."""
+
+    name: str
+    where: str
+    rungs: list[Rung]
+
+    @property
+    def differing(self) -> int:
+        """How many lines the device sent otherwise."""
+        return sum(not one.is_equal for one in self.rungs)
 
 
 @dataclass(slots=True)
 class Group:
-    """The frames with one cause: how many, the first and the last, and what both sent for the first one."""
+    """The frames with one cause: how many, the first and the last, when, and what both sent for the first one."""
 
     cause: str
     kind: str
@@ -36,13 +83,23 @@ class Group:
     reference: str
     count: int = 0
     last: int = 0
+    times: Times = field(default_factory=Times)
 
 
 class Groups:
-    """All causes that were found."""
+    """All causes that were found, and the ladders of connections in which lines or messages differ."""
 
     def __init__(self) -> None:
         self.rows: dict[str, Group] = {}
+        self.ladders: list[Ladder] = []
+        self.ladders_left_out = 0
+
+    def add_ladder(self, ladder: Ladder) -> None:
+        """Takes a ladder, where there is room for it."""
+        if len(self.ladders) < MOST_LADDERS:
+            self.ladders.append(ladder)
+        else:
+            self.ladders_left_out += 1
 
     def add(self, cause: str, kind: str, moment: int, where: str, device: str = "", reference: str = "", count: int = 1) -> None:
         """Takes a frame, or several."""
@@ -52,7 +109,20 @@ class Groups:
         if moment < row.first:
             row.first, row.where, row.device, row.reference = moment, where, device, reference
         row.count += count
+        row.times.add(moment, count)
         row.last = max(row.last, moment)
+
+    def merge(self, other: "Groups") -> None:
+        """Takes what was found elsewhere."""
+        for ladder in other.ladders:
+            self.add_ladder(ladder)
+        self.ladders_left_out += other.ladders_left_out
+        for cause, row in other.rows.items():
+            known = self.rows.setdefault(cause, row)
+            if known is not row:
+                for place, count in row.times.counts.items():
+                    known.times.add(place * row.times.span, count)
+                known.count, known.last = known.count + row.count, max(known.last, row.last)
 
     def of(self, kind: str) -> list[Group]:
         """Those of a kind, the most frequent first."""

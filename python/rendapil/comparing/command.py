@@ -7,27 +7,28 @@ import os
 import sys
 import tempfile
 from collections.abc import Iterator
-from dataclasses import asdict
+from dataclasses import asdict, dataclass
 from ipaddress import IPv4Address
 
 from rendapil.any_capture import IN, OUT
 from rendapil.bindings import SECOND, SIDES
 from rendapil.check.settings import document_of
-from rendapil.comparing.bindings import Learnt, clocks_apart
+from rendapil.comparing.bindings import Clock, Learnt, clock_of
 from rendapil.comparing.captures import Links, shifted
 from rendapil.comparing.causes import BY_RIGHT, DIFFERENT, UNSURE, Group, Groups
 from rendapil.comparing.judge import Judge, Options, delays_of
 from rendapil.comparing.match import Match
 from rendapil.comparing.ports import undo_ports
-from rendapil.ending import ended
+from rendapil.ending import ended, put_in_place
 from rendapil.files import shown
 from rendapil.frames import time_of
+from rendapil.other_python import has
 from rendapil.places import TOP
 from rendapil.readers import records
 from rendapil.sayings import Fault
 
-SHOWN = 40
-"""The most causes of a kind that are shown as text."""
+SHOWN, MOST_CUTS = 40, 64
+"""The most causes of a kind that are shown as text, and how often aliases may change hands."""
 
 HEADS = {DIFFERENT: "Differences", BY_RIGHT: "Other than the reference, as a device may be", UNSURE: "Not compared"}
 
@@ -69,6 +70,8 @@ def parsed() -> argparse.Namespace:
     )
     parser.add_argument("--keep", metavar="FOLDER", help="keep the files of the reference's run there, for rendapil explain")
     parser.add_argument("--json", action="store_true", help="write all as JSON")
+    parser.add_argument("--json-lines", action="store_true", help="write a line of JSON for each cause, and one in front with the counts")
+    parser.add_argument("--html", metavar="FILE", help="also write a page with pictures to FILE")
     parser.add_argument("--program", help=argparse.SUPPRESS)
     return parser.parse_args()
 
@@ -93,6 +96,8 @@ def read_links(words: argparse.Namespace, settings: dict, room: str) -> Links:
     else:
         raise Fault(f"{len(files)} captures: give one, two or four")
     links.close()
+    if links.are_swapped():
+        raise Fault("left and right are swapped: each capture has the aliases of the other link. Name the other one first")
     idle = [side for side in (0, 1) if not links.came[side].numbers]
     for side in idle:
         print(
@@ -118,13 +123,14 @@ def tell_group(row: Group) -> None:
         print(f"          reference sends  {row.reference}")
 
 
-def tell(links: Links, learnt: Learnt, match: Match, groups: Groups, apart: int, moved: tuple[int, int], misses: int) -> None:
+def tell(links: Links, found: "Compared", clock: Clock) -> None:
     """All of it as text."""
+    match, groups, moved, misses = found.match, found.groups, found.moved, found.misses
     counts = match.counts
     print(
         f"{sum(len(file.numbers) for file in links.came)} frames came, the device sent {counts['device']} and the reference {counts['reference']}: {counts['equal']} are equal."
     )
-    print(f"{len(learnt.chosen)} hosts have an alias.", end=" ")
+    print(f"{len(found.learnt.chosen)} hosts have an alias.", end=" ")
     if delays := delays_of(match):
         print(
             "Frames stayed in the device for {} in the middle, 99 of 100 for at most {}, and one for {}.".format(
@@ -133,8 +139,11 @@ def tell(links: Links, learnt: Learnt, match: Match, groups: Groups, apart: int,
             end="",
         )
     print()
-    if apart:
-        print(f"The right link's clock is {apart / SECOND:.6f} s ahead: its stamps were moved.")
+    if clock:
+        gains = f", and gains {3600 * clock.gain:+.3f} s in an hour" if clock.gain else ""
+        print(f"The right link's clock is {clock.ahead / SECOND:.6f} s ahead{gains}: its stamps were moved.")
+    if found.parts > 1:
+        print(f"Aliases went from one host to another: {found.parts} times were compared, each by itself.")
     if any(moved):
         print(f"{moved[0]} flows had another port, and {moved[1]} hosts shared an alias: compared as if not.")
     if misses:
@@ -157,9 +166,23 @@ def tell(links: Links, learnt: Learnt, match: Match, groups: Groups, apart: int,
     print("\n" + ("The device differs from the reference." if groups.of(DIFFERENT) else "No difference that matters."))
 
 
+def cause_row(row: Group) -> dict[str, object]:
+    """A cause as JSON."""
+    told = {name: value for name, value in asdict(row).items() if name != "times"}
+    return {**told, "first_time": time_of(row.first), "last_time": time_of(row.last)}
+
+
+def tell_lines(match: Match, groups: Groups, apart: int) -> None:
+    """A line of JSON for each cause, as Suricata's eve.json has them, and one in front of them."""
+    print(json.dumps({"event_type": "compared", **dict(match.counts), "differs": bool(groups.of(DIFFERENT)), "clocks_apart": apart}))
+    for kind in HEADS:
+        for row in groups.of(kind):
+            print(json.dumps({"event_type": "cause", **cause_row(row)}))
+
+
 def tell_json(links: Links, learnt: Learnt, match: Match, groups: Groups, apart: int) -> None:
     """All of it as JSON."""
-    causes = [{**asdict(row), "first_time": time_of(row.first), "last_time": time_of(row.last)} for kind in HEADS for row in groups.of(kind)]
+    causes = [cause_row(row) for kind in HEADS for row in groups.of(kind)]
     aliases = [
         {"side": SIDES[side], "host": str(IPv4Address(host)), "alias": str(IPv4Address(alias))} for (side, host), alias in learnt.chosen.items()
     ]
@@ -184,39 +207,92 @@ def folder(kept: str | None) -> Iterator[str]:
             yield room
 
 
+def compared(words: argparse.Namespace, settings: dict, links: Links, learnt: Learnt, room: str) -> "Compared":
+    """Compares the captures of a time in which no alias changes hands."""
+    learnt.choose(settings)
+    moved = undo_ports(settings, links, learnt) if words.any_port else (0, 0)
+    paths = os.path.join(room, "settings.toml"), os.path.join(room, "by-use.toml")
+    for name, is_by_use in zip(paths, (False, True)):
+        with open(name, "w", encoding="utf-8") as out:
+            out.write(learnt.settings_text(settings, is_by_use))
+    options = Options(
+        words.any_ttl, words.lossy, round(words.window * SECOND), [words.program] if words.program else [str(TOP / "rendapil"), "--quiet"], room
+    )
+    judge = Judge(settings, links, learnt, options)
+    return Compared(learnt, judge.judge(*paths), judge.groups, moved, judge.misses)
+
+
+def learnt_from(links: Links, words: argparse.Namespace) -> Learnt:
+    """Which aliases the captures show."""
+    learnt = Learnt()
+    learnt.learn(links, not words.any_port)
+    return learnt
+
+
+@dataclass
+class Compared:
+    """What a comparison found."""
+
+    learnt: Learnt
+    match: Match
+    groups: Groups
+    moved: tuple[int, int]
+    misses: int
+    parts: int = 1
+
+    def merge(self, other: "Compared") -> None:
+        """Takes what a later time showed."""
+        self.learnt.chosen = {**other.learnt.chosen, **self.learnt.chosen}
+        self.match.counts += other.match.counts
+        self.match.verdicts += other.match.verdicts
+        self.match.delays += other.match.delays
+        self.groups.merge(other.groups)
+        self.moved = self.moved[0] + other.moved[0], self.moved[1] + other.moved[1]
+        self.misses, self.parts = self.misses + other.misses, self.parts + 1
+
+
+def compared_by_parts(words: argparse.Namespace, settings: dict, links: Links, room: str) -> Compared:
+    """Compares. Where aliases change hands, each time between two changes by itself."""
+    learnt = learnt_from(links, words)
+    if not learnt.votes and all(file.numbers for file in links.went):
+        raise Fault("no frame that went out is one that came: are these the links of one device, at one time, and are left and right in their order?")
+    changes = [] if words.any_port else learnt.changes()
+    if not changes:
+        return compared(words, settings, links, learnt, room)
+    parts = [part for part in links.parts(links.quiet_moments(changes)[:MOST_CUTS], room) if any(file.numbers for file in part.came)]
+    whole, *others = (compared(words, settings, part, learnt_from(part, words), os.path.dirname(part.came[0].path)) for part in parts)
+    for other in others:
+        whole.merge(other)
+    return whole
+
+
 def compare(words: argparse.Namespace) -> int:
     """Compares, and tells. 1 where something differs."""
+    if words.html and not has("jinja2"):
+        raise Fault("--html needs jinja2: apt-get install python3-jinja2")
     settings, _ = document_of(words.settings)
     with folder(words.keep) as room:
         links = read_links(words, settings, room)
-        apart = clocks_apart(links) if words.clocks is None else round(words.clocks * SECOND)
-        if apart:
+        clock = clock_of(links) if words.clocks is None else Clock(0, round(words.clocks * SECOND))
+        if clock:
             for file in (links.came[1], links.went[1]):
-                shifted(file, -apart)
-        learnt = Learnt()
-        learnt.learn(links, not words.any_port)
-        if not learnt.votes and all(file.numbers for file in links.went):
-            raise Fault(
-                "no frame that went out is one that came: are these the links of one device, at one time, and are left and right in their order?"
-            )
-        learnt.choose(settings)
-        moved = undo_ports(settings, links, learnt) if words.any_port else (0, 0)
-        path = os.path.join(room, "settings.toml")
-        by_use = os.path.join(room, "by-use.toml")
-        for name, is_by_use in ((path, False), (by_use, True)):
-            with open(name, "w", encoding="utf-8") as out:
-                out.write(learnt.settings_text(settings, is_by_use))
-        options = Options(words.any_ttl, words.lossy, round(words.window * SECOND), [words.program or str(TOP / "rendapil")], room)
-        judge = Judge(settings, links, learnt, options)
-        match = judge.judge(path, by_use)
+                shifted(file, lambda moment: -clock.at(moment))
+        found = compared_by_parts(words, settings, links, room)
+        match = found.match
         if not match.counts["device"] and not match.counts["reference"]:
             most = ", ".join(verdict for verdict, _ in match.verdicts.most_common(3))
             raise Fault(f"neither the device nor the reference sent anything on, so there is nothing to compare. The reference says {most}")
-        if words.json:
-            tell_json(links, learnt, match, judge.groups, apart)
+        if words.html:
+            from rendapil.comparing.page import page_of
+
+            put_in_place(words.html, page_of(words, links, match, found.groups))
+        if words.json_lines:
+            tell_lines(match, found.groups, clock.ahead)
+        elif words.json:
+            tell_json(links, found.learnt, match, found.groups, clock.ahead)
         else:
-            tell(links, learnt, match, judge.groups, apart, moved, judge.misses)
-        return int(bool(judge.groups.of(DIFFERENT)))
+            tell(links, found, clock)
+        return int(bool(found.groups.of(DIFFERENT)))
 
 
 def main() -> int:

@@ -11,6 +11,7 @@ from rendapil.bindings import TCP
 from rendapil.comparing.bindings import frames
 from rendapil.comparing.captures import Joiner, Links
 from rendapil.packet import Packet
+from rendapil.progress import Progress
 from rendapil.streams import TRACKED
 
 DELAYS, KEPT = 100_000, 300_000
@@ -124,8 +125,10 @@ class Match:
         outgoing = sent_by(links)
         waiting = next(outgoing, None)
         moment = 0
+        told = Progress("compare", "frames are compared")
         for came, dues in reference.events():
             moment = came.moment
+            told.tell(came.number)
             while waiting and waiting.moment < moment:
                 self._take_sent(waiting)
                 waiting = next(outgoing, None)

@@ -6,17 +6,17 @@ import struct
 from bisect import bisect_right
 from collections import Counter
 from dataclasses import dataclass, field
-from functools import cached_property
-from itertools import accumulate
+from functools import cached_property, partial
+from itertools import accumulate, starmap
 from typing import NamedTuple
 
 from rendapil.bindings import ACK, DNS_PORT, FIN, FTP_PORT, RST, SYN, signed
-from rendapil.comparing.causes import BY_RIGHT, DIFFERENT, UNSURE, Groups, payload
+from rendapil.comparing.causes import BY_RIGHT, DIFFERENT, UNSURE, Groups, Ladder, Rung, payload
 from rendapil.frames import dns_lines, ftp_lines, plain
 from rendapil.streams import TRACKED, messages_in, whole_of_parts
 
-ROOM, SHIFTS = 1 << 28, 64
-"""The most octets of connections that are compared, and how far numbers are looked for that are off."""
+ROOM, SHIFTS, RUNGS = 1 << 28, 64, 60
+"""The most octets of connections that are compared, how far numbers are looked for that are off, and the most lines of a ladder."""
 
 MISSED, PROXY = "that a capture misses", "as a proxy does"
 """How causes end that show a capture which misses frames, and one that it may make up."""
@@ -177,8 +177,17 @@ class Direction:
                 cause = self._cause(number, unit, right, given[number], self.places_came[number])
                 self._tell(cause, DIFFERENT, at, line_of(given[number], self.port), line_of(right, self.port))
         kept = [given.get(number, right) for number, right in enumerate(self.wanted)]
+        self._draw(kept)
         self.places = list(accumulate(map(len, kept), initial=0))
         self.model = b"".join(kept)
+
+    def _draw(self, kept: list[bytes]) -> None:
+        """Keeps the lines or messages around those that differ, as a ladder."""
+        differ = [number for number, (one, other) in enumerate(zip(kept, self.wanted)) if one != other]
+        near = {place for number in differ[:RUNGS] for place in range(number - 2, number + 3) if 0 <= place < len(kept)}
+        if near:
+            rows = (map(partial(line_of, port=self.port), (self.units[place], kept[place], self.wanted[place])) for place in sorted(near)[:RUNGS])
+            self.room.add_ladder(Ladder(self.name, self.where, list(starmap(Rung, rows))))
 
     def _find_behind_gap(self, given: dict[int, bytes]) -> None:
         """Finds what became of units that went out behind a gap: the segments that came have their order, whatever numbers the device gave them."""

@@ -1,5 +1,5 @@
 """Writes the rules with which a Linux gateway does the twice NAT of these settings, as far as Linux can: nftables
-has the translation, iproute2 the routes. Comments say what Linux doesn't do."""
+has the translation, iproute2 the routes. Comments say what Linux doesn't do. For other routers it writes the statics alone, untried."""
 import argparse
 import re
 import sys
@@ -125,7 +125,34 @@ def iproute2(settings: dict, words: argparse.Namespace) -> list[str]:
     return lines
 
 
-KINDS = {"nftables": nftables, "iproute2": iproute2}
+# Routers of others: statics alone, as their documents spell them.
+
+UNTRIED = "UNTRIED: no such router was at hand. These lines have the documented syntax, and nobody has loaded them. Hold the router against 'rendapil compare'."
+
+
+def cisco(settings: dict, words: argparse.Namespace) -> list[str]:
+    """The statics as Cisco's IOS has them: the left realm is the inside."""
+    lines = [f"! Written by rendapil export cisco of {shown(words.settings)}.", f"! {UNTRIED}", "! Statics alone: no pools, no `same`, no routes."]
+    lines += [f"interface {words.left}", " ip nat inside", f"interface {words.right}", " ip nat outside"]
+    for side, way in zip(SIDES, ("inside", "outside")):
+        lines += [f"ip nat {way} source static {host} {alias}" for host, alias in pairs_of(settings, side)]
+    return lines
+
+
+def junos(settings: dict, words: argparse.Namespace) -> list[str]:
+    """The statics as Juniper's Junos has them on an SRX: zones are called left and right."""
+    lines = [f"# Written by rendapil export junos of {shown(words.settings)}.", f"# {UNTRIED}", "# Statics alone: no pools, no `same`, no routes."]
+    lines += [f"set security zones security-zone {side} interfaces {getattr(words, side)}" for side in SIDES]
+    for side, other in zip(SIDES, reversed(SIDES)):
+        rules = f"set security nat static rule-set {side}-hosts"
+        pairs = pairs_of(settings, side)
+        lines += [f"{rules} from zone {other}"] if pairs else []
+        for number, (host, alias) in enumerate(pairs, 1):
+            lines += [f"{rules} rule r{number} match destination-address {alias}/32", f"{rules} rule r{number} then static-nat prefix {host}/32"]
+    return lines
+
+
+KINDS = {"nftables": nftables, "iproute2": iproute2, "cisco": cisco, "junos": junos}
 
 
 def device(text: str) -> str:
@@ -139,7 +166,7 @@ def parsed() -> argparse.Namespace:
     """The words of the command."""
     end = "The status is 0, or 1 where the settings can't be read or have a fault, or 2 where the words are wrong."
     parser = argparse.ArgumentParser(prog="rendapil export", description=__doc__, epilog=end)
-    parser.add_argument("kind", metavar="KIND", choices=KINDS, help="nftables or iproute2")
+    parser.add_argument("kind", metavar="KIND", choices=KINDS, help="nftables or iproute2; or cisco or junos, which are untried")
     parser.add_argument("settings", metavar="SETTINGS", help="the settings")
     for side, name in zip(SIDES, ("eth0", "eth1")):
         parser.add_argument(f"--{side}", metavar="DEVICE", type=device, default=name, help=f"the device of the {side} link ({name})")

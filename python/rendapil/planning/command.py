@@ -11,7 +11,7 @@ from ipaddress import IPv4Address, IPv4Network, collapse_addresses
 
 from rendapil.any_capture import Record
 from rendapil.bindings import SIDES
-from rendapil.ending import ended, fail
+from rendapil.ending import ended, fail, put_in_place
 from rendapil.files import FORMS, shown
 from rendapil.frames import second_of
 from rendapil.inputs import files_of
@@ -312,23 +312,6 @@ def refuse_one_side_twice(left: list[str], right: list[str]) -> None:
             with suppress(OSError):
                 if os.path.samefile(one, other):
                     raise Fault(f"{shown(one)} is given for both sides: each network needs a capture of its own")
-
-
-def put_in_place(path: str, text: str) -> None:
-    """Writes a file whole, or not at all."""
-    if os.path.exists(path) and not os.path.isfile(path):  # a device or a pipe
-        with open(path, "w", encoding="utf-8") as file:
-            file.write(text)
-        return
-    new = f"{path}.new"
-    try:
-        with open(new, "w", encoding="utf-8") as file:
-            file.write(text)
-        os.replace(new, path)
-    except OSError:
-        with suppress(OSError):
-            os.remove(new)
-        raise
 
 
 def tell_zones(plan: Plan) -> None:
