@@ -1,5 +1,5 @@
 """The edits that the prover has to refuse: those of the gate, in crates/CRATE/must-fail, and the others, in tests/wrong/CRATE."""
-from collections.abc import Iterator
+from collections.abc import Iterable, Iterator
 from pathlib import Path
 
 PROVED = ("src", "specs", "proofs")
@@ -52,6 +52,18 @@ def edited(edit: str, crate: Path) -> dict[str, str]:
 def wrong(top: Path, crate: str) -> list[Path]:
     """The edits of a crate that aren't in the gate."""
     return sorted((top / "tests" / "wrong" / crate).glob("*.edit"))
+
+
+def crates_of(paths: Iterable[str]) -> set[str]:
+    """The crates of which paths from the top are what is proved, or an edit of tests/wrong."""
+    found = set()
+    for path in paths:
+        match path.split("/"):
+            case ["crates", crate, folder, _, *_] if folder in PROVED:
+                found.add(crate)
+            case ["tests", "wrong", crate, _]:
+                found.add(crate)
+    return found
 
 
 def with_crates(top: Path) -> Iterator[tuple[Path, Path]]:

@@ -3,7 +3,7 @@ import tempfile
 import unittest
 from pathlib import Path
 
-from edit_files import BadEdit, edited, faults
+from edit_files import BadEdit, crates_of, edited, faults
 from testing import TOP
 
 CODE = "fn least(a: u8, b: u8) -> u8 {\n    if a < b { a } else { b }\n}\n"
@@ -50,6 +50,12 @@ class Edits(unittest.TestCase):
         """And one whose crate has another name now."""
         self.crate.rename(self.top / "crates" / "other")
         self.assertEqual(len(faults(self.top)), 1)
+
+    def test_changed(self) -> None:
+        """What is proved of a crate is a change of it, and so is an edit of tests/wrong. A stored run, an edit of the gate and a page aren't."""
+        changed = ["crates/low/src/lib.rt", "crates/high/specs/Inside/Words.antt", "tests/wrong/edit/one.edit"]
+        same = ["crates/run/data/left.pcap", "crates/gate/must-fail/one.edit", "crates.txt", "docs/GATE.md"]
+        self.assertEqual(crates_of(changed + same), {"low", "high", "edit"})
 
     def test_no_edits(self) -> None:
         """What is no edit can't be applied."""
