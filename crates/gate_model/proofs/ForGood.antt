@@ -1,6 +1,6 @@
 -- What settings fix is for good, and frames between the hosts for which they fix it get through.
 use Rattle.std.proofs.Common.{◌≡◌, ◌<◌, ℕ, ◌+◌, Bool, true, false, not, ◌==◌, nat_lt, List, [], ◌∷◌, ◌++◌, length, map, get_or, Contains}
-use Rattle.std.proofs.Common.{Option, Some, None, refl, sym, ◌∙◌, ap, subst, inl, inr, fold, arith}
+use Rattle.std.proofs.Common.{None, refl, sym, ◌∙◌, ap, subst, inl, inr, fold, arith}
 use Rattle.std.proofs.lemmas.Bool.{and_from, or_parts, or_right, not-false, eq-eqb}
 use Rattle.std.proofs.lemmas.List.{get_or-map, length-map}
 use Rattle.std.proofs.lemmas.List.Elements.{All-cons, All-nil}
@@ -15,7 +15,7 @@ use Rattle.gate_settings.specs.declared.settings.Fixed.{Fixed}
 use Rattle.gate_settings.specs.declared.settings.Settings.{Settings}
 use Rattle.ipv4_frames.specs.Ipv4.{Datagram}
 use Rattle.binding_table.specs.declared.binding.Binding.{Binding}
-use Rattle.binding_table.specs.Prelude.{fixed_binding, opening, free, is_of_host, in_pool, seen, needed, IsBoundTo, IsLawful, IsKnownAs}
+use Rattle.binding_table.specs.Prelude.{fixed_binding, opening, free, is_of_host, in_pool, needed, IsBoundTo, IsLawful, IsKnownAs}
 use Rattle.binding_table.proofs.Kept.{lawful_expired}
 use Rattle.binding_table.proofs.Once.{find_only, host_alone}
 use Rattle.binding_table.proofs.Used.{known_after}
