@@ -1,14 +1,13 @@
 -- What settings fix is for good, and frames between the hosts for which they fix it get through.
-use Rattle.std.proofs.Common.{◌≡◌, ◌<◌, ℕ, ◌+◌, Bool, true, false, not, ◌==◌, nat_lt, List, [], ◌∷◌, ◌++◌, length, map, get_or, Contains}
-use Rattle.std.proofs.Common.{Option, Some, None, refl, sym, ◌∙◌, ap, subst, inl, inr, fold, arith}
+use Rattle.std.proofs.Common.{◌≡◌, ◌<◌, ℕ, ◌+◌, true, false, not, ◌==◌, List, [], ◌∷◌, length, map, get_or, Contains}
+use Rattle.std.proofs.Common.{None, refl, ◌∙◌, ap, subst, inl, inr, fold, arith}
 use Rattle.std.proofs.lemmas.Bool.{and_from, or_parts, or_right, not-false, eq-eqb}
 use Rattle.std.proofs.lemmas.List.{get_or-map, length-map}
 use Rattle.std.proofs.lemmas.List.Elements.{All-cons, All-nil}
 use Rattle.gate_base.specs.Prelude.{Event, other, same_side, is_unicast_number}
 use Rattle.verdicts.specs.Prelude.{first_that_holds}
 use Rattle.gate_base.specs.declared.address.Addr.{Addr}
-use Rattle.verdicts.specs.declared.refusal.Refusal.{Refusal}
-use Rattle.verdicts.specs.declared.refusal.Refusal.TheVariants.{SourceInPool, NoBinding, PoolEmpty}
+use Rattle.verdicts.specs.declared.refusal.Refusal.TheVariants.{SourceInPool, NoBinding}
 use Rattle.gate_base.specs.declared.side.Side.{Side}
 use Rattle.gate_base.proofs.Sides.{other_other, same_side-itself}
 use Rattle.gate_settings.specs.Prelude.{IsSound, HasForms, is_in_same}
@@ -16,22 +15,24 @@ use Rattle.gate_settings.specs.declared.settings.Fixed.{Fixed}
 use Rattle.gate_settings.specs.declared.settings.Settings.{Settings}
 use Rattle.ipv4_frames.specs.Ipv4.{Datagram}
 use Rattle.binding_table.specs.declared.binding.Binding.{Binding}
-use Rattle.binding_table.specs.Prelude.{fixed_binding, opening, free, is_of_host, in_pool, seen, needed, IsBoundTo, IsLawful, IsKnownAs}
+use Rattle.binding_table.specs.Prelude.{fixed_binding, opening, is_of_host, in_pool, needed, IsBoundTo, IsLawful, IsKnownAs}
 use Rattle.binding_table.proofs.Kept.{lawful_expired}
 use Rattle.binding_table.proofs.Once.{find_only, host_alone}
 use Rattle.binding_table.proofs.Used.{known_after}
-use Rattle.gate_model.specs.Called.{AllBefore, CrossBack, table_by}
+use Rattle.twice_translate.specs.Renamed.{renamed}
+use Rattle.verdicts.specs.declared.verdict.Verdict.TheVariants.{Pass}
+use Rattle.gate_model.specs.Called.{AllBefore, CrossBack, table_by, sent_from, sent_to}
 use Rattle.gate_model.specs.Prelude.{SessionRules, World, at_moment, opening_world, next, datagram_in, kind_of, uses_of, source_of, destination_of}
-use Rattle.gate_model.specs.Prelude.{addresses_of, address_tests, is_reachable, is_pool_empty, payload_addresses, header_tests, datagram_tests}
-use Rattle.gate_model.specs.Prelude.{transport_tests, kind_tests, late_tests, verdict_of}
+use Rattle.gate_model.specs.Prelude.{addresses_of, address_tests, is_reachable}
+use Rattle.gate_model.specs.Prelude.{verdict_of, out_by}
 use Rattle.gate_model.specs.Verdict.{verdict}
-use Rattle.gate_model.specs.ForGood.{IsFixed, GetsThrough}
-use Rattle.gate_model.specs.Transparent.{own_tests}
+use Rattle.gate_model.specs.ForGood.{IsFixed}
+use Rattle.gate_model.specs.Transparent.{GetsThrough}
 use Rattle.gate_model.proofs.AliasesLast.{cross_back, called_is, known_through, lawful_by}
 use Rattle.gate_model.proofs.BoundTables.{known_expired, known_seen, placed}
 use Rattle.gate_model.proofs.HostsKept.{known_back}
 use Rattle.gate_model.proofs.HostsOpen.{opening_is_lawful}
-use Rattle.gate_model.proofs.Transparency.{host_outside, known_reached, none_needed, two_fail, plain_verdict, segment_verdict, ahead, same_behind, in_order, not_below}
+use Rattle.gate_model.proofs.Transparency.{host_outside, known_reached, none_needed, two_fail, plain_verdict, plain_out, segment_verdict, segment_out, past_addresses, none_named}
 
 -- ## At the beginning
 
@@ -109,49 +110,19 @@ for_good rules settings events side host alias sound forms lawful is now =
 
 -- ## Frames between them
 
--- a frame whose addresses are no reason to refuse it is refused for what it is by itself, or for what it carries
-past_addresses : {S : Type 0} (rules : SessionRules S) (w : World S) (e : Event)
-    → first_that_holds (address_tests (at_moment w e.moment).table e.side (datagram_in e)) ≡ None
-    → verdict rules w e ≡ verdict_of (first_that_holds (own_tests e ++
-    (kind_tests rules (at_moment w e.moment) e.side e.moment (datagram_in e) (kind_of (datagram_in e))
-    ++ (is_pool_empty rules (at_moment w e.moment) e.side (datagram_in e) (kind_of (datagram_in e)), PoolEmpty)
-    ∷ late_tests rules (at_moment w e.moment) e.side e.moment (datagram_in e) (kind_of (datagram_in e)))))
-unfolding verdict
-past_addresses rules w e none =
-    let live = at_moment w e.moment in
-    let d = datagram_in e in
-    let rest : List (Bool × Refusal) = kind_tests rules live e.side e.moment d (kind_of d)
-    ++ (is_pool_empty rules live e.side d (kind_of d), PoolEmpty) ∷ late_tests rules live e.side e.moment d (kind_of d) in
-    let first = address_tests live.table e.side d in
-    ap verdict_of
-    (ap first_that_holds (sym (in_order (header_tests e) (datagram_tests d) (transport_tests d) (first ++ rest)))
-    ∙ same_behind (own_tests e) (first ++ rest) rest (ahead first rest none))
-
--- where nothing more is named, the pool is asked for nothing
-none_named : {S : Type 0} (rules : SessionRules S) (w : World S) (e : Event)
-    → needed (at_moment w e.moment).table e.side (addresses_of (datagram_in e)) ≡ 0
-    → payload_addresses rules (at_moment w e.moment) e.side (datagram_in e) (kind_of (datagram_in e)) ≡ []
-    → is_pool_empty rules (at_moment w e.moment) e.side (datagram_in e) (kind_of (datagram_in e)) ≡ false
-none_named rules w e room none =
-    let live = at_moment w e.moment in
-    let d = datagram_in e in
-    ap (λ (names : List Addr). nat_lt (free live.table (other e.side)) (needed live.table e.side (addresses_of d ++ names))) none
-    ∙ ap (λ (n : ℕ). nat_lt (free live.table (other e.side)) n) room ∙ not_below (free live.table (other e.side))
-
 through : {S : Type 0} (rules : SessionRules S) (w : World S) (e : Event) (alias host : Addr) (until : ℕ) → IsLawful w.table
     → is_unicast_number host.0 ≡ true → IsKnownAs (at_moment w e.moment).table e.side (datagram_in e).source alias.0 until
     → IsKnownAs (at_moment w e.moment).table (other e.side) host.0 (datagram_in e).destination until → GetsThrough rules w e alias host
 through {S = S} rules w e alias host until lawful unicast own far = record {
   addresses = addresses;
   room = room;
-  from = called_is (table_by rules w e) e.side (source_of d) alias
-      (known_seen (table_by rules w e) e.side d.source alias.0 until lawful_e
-      (known_after (uses_of rules (at_moment w e.moment) e.side e.moment d (kind_of d)) (at_moment w e.moment).table e.side d.source alias.0
-      until own));
-  to = called_is (table_by rules w e) e.side (destination_of d) host
-      (known_back (table_by rules w e) e.side host.0 d.destination until lawful_e
-      (known_after (uses_of rules (at_moment w e.moment) e.side e.moment d (kind_of d)) (at_moment w e.moment).table (other e.side) host.0
-      d.destination until far));
+  from = from;
+  to = to;
+  sent = λ kind none.
+      let passes : verdict rules w e ≡ Pass = plain_verdict rules w e kind addresses room ∙ ap verdict_of none in
+      let live = at_moment w e.moment in
+      ap (out_by rules live e) passes ∙ plain_out rules live e.side e.moment d (kind_of d) kind ∙ between;
+  segment_sent = λ is passes. ap (out_by rules (at_moment w e.moment) e) passes ∙ segment_out rules w e is ∙ between;
   plain = λ kind. plain_verdict rules w e kind addresses room;
   segment = λ is. segment_verdict rules w e is addresses room;
   carries = past_addresses rules w e addresses;
@@ -163,6 +134,23 @@ through {S = S} rules w e alias host until lawful unicast own far = record {
 
     lawful_e : IsLawful (table_by rules w e)
     lawful_e = lawful_by rules w e lawful
+
+    from : sent_from rules w e ≡ alias
+    from = called_is (table_by rules w e) e.side (source_of (datagram_in e)) alias
+        (known_seen (table_by rules w e) e.side (datagram_in e).source alias.0 until lawful_e
+        (known_after (uses_of rules (at_moment w e.moment) e.side e.moment (datagram_in e) (kind_of (datagram_in e))) (at_moment w e.moment).table
+        e.side (datagram_in e).source alias.0 until own))
+
+    to : sent_to rules w e ≡ host
+    to = called_is (table_by rules w e) e.side (destination_of (datagram_in e)) host
+        (known_back (table_by rules w e) e.side host.0 (datagram_in e).destination until lawful_e
+        (known_after (uses_of rules (at_moment w e.moment) e.side e.moment (datagram_in e) (kind_of (datagram_in e))) (at_moment w e.moment).table
+        (other e.side) host.0 (datagram_in e).destination until far))
+
+    between : renamed (datagram_in e) (sent_from rules w e).0 (sent_to rules w e).0 ∷ [] ≡ renamed (datagram_in e) alias.0 host.0 ∷ []
+    between =
+        ap (λ (a : Addr). renamed (datagram_in e) a.0 (sent_to rules w e).0 ∷ []) from
+        ∙ ap (λ (a : Addr). renamed (datagram_in e) alias.0 a.0 ∷ []) to
 
     lawful_live : IsLawful (at_moment w e.moment).table
     lawful_live = lawful_expired w.table (record { 0 = e.moment }) lawful

@@ -1,6 +1,6 @@
 -- What goes out as it came is read with its new addresses, and who answers that replies to it.
-use Rattle.std.proofs.Common.{Fits, w8, ◌≡◌, ◌<◌, ◌+◌, ◌/◌, ◌^◌, ◌⊎◌, ◌==◌, ◌||◌, ℕ, Bool, true, false, not, cond, nat_lt, List, [], ◌∷◌, ◌++◌, All, Option, Some, None}
-use Rattle.std.proofs.Common.{Result, Ok, Err, is_ok, length, take, drop, get_or, slice_index, refl, sym, ◌∙◌, ap, subst, inl, inr, arith, ltb-false}
+use Rattle.std.proofs.Common.{Fits, w8, ◌≡◌, ◌<◌, ◌+◌, ◌^◌, ◌==◌, ◌||◌, ℕ, Bool, true, false, not, cond, nat_lt, List, [], ◌∷◌, ◌++◌, Some, None}
+use Rattle.std.proofs.Common.{Result, Ok, Err, is_ok, length, take, drop, get_or, refl, sym, ◌∙◌, ap, subst, inl, inr, arith, ltb-false}
 use Rattle.std.proofs.Math.Facts.{Fits-of_lt}
 use Rattle.std.proofs.lemmas.Bool.{cases_Bool, cases_lt, eqb-true, not-false, or_parts}
 use Rattle.std.proofs.lemmas.List.{get_or_past}
@@ -27,11 +27,11 @@ use Rattle.udp_icmp.specs.Icmp.{Icmp, read_icmp, icmp_fields_of}
 use Rattle.tcp_segments.specs.Prelude.{Tcp, has_bad_offset, has_bad_options, tcp_covered}
 use Rattle.tcp_segments.specs.Tcp.{read_tcp}
 use Rattle.twice_translate.specs.Content.{Content, of_icmp, of_udp, of_segment, read_as, read_content}
-use Rattle.twice_translate.specs.Renamed.{IsAccepted, CanGoOn, datagram_of, renamed, with_addresses}
+use Rattle.twice_translate.specs.Renamed.{IsAccepted, CanGoOn, renamed, with_addresses}
 use Rattle.twice_translate.proofs.Cut.{cut_goes_on, cut_same}
 use Rattle.twice_translate.proofs.Sealed.{content_back}
 use Rattle.twice_translate.proofs.Whole.{goes_on}
-use Rattle.binding_table.specs.Prelude.{Bindings, in_pool, is_same, IsLawful, IsKnownAs}
+use Rattle.binding_table.specs.Prelude.{Bindings, is_same, IsLawful, IsKnownAs}
 use Rattle.binding_table.proofs.Opening.{top_of}
 use Rattle.gate_model.specs.Called.{table_by, sent_from, sent_to, header_until}
 use Rattle.gate_model.specs.Frame.{has_other_address, is_other_protocol}
@@ -40,7 +40,7 @@ use Rattle.gate_model.specs.Prelude.{tests, tcp_of, out, out_by}
 use Rattle.gate_model.specs.Verdict.{verdict}
 use Rattle.gate_model.specs.Octets.{AreOctets, GoesAsItCame, IsReadAs, IsAnswer}
 use Rattle.gate_model.specs.Transparent.{IsReply}
-use Rattle.gate_model.proofs.AliasesLast.{HostsAre, hosts_are, lawful_by}
+use Rattle.gate_model.proofs.AliasesLast.{hosts_are, lawful_by}
 use Rattle.gate_model.proofs.BoundTables.{placed}
 use Rattle.gate_model.proofs.Passing.{NoneHolds, none_head, none_left, none_right, none_tail, pass_is}
 use Rattle.gate_model.proofs.Transparency.{plain_out, segment_out}

@@ -1,5 +1,5 @@
 -- What goes out of a run is what goes out of its frames that pass, alone.
-use Rattle.std.proofs.Common.{◌≡◌, ◌≤◌, ℕ, List, [], ◌∷◌, ◌++◌, map, Option, Some, None, refl, sym, ◌∙◌, ap, arith}
+use Rattle.std.proofs.Common.{◌≡◌, ◌≤◌, ℕ, List, [], ◌∷◌, ◌++◌, map, Option, Some, None, refl, ◌∙◌, ap, arith}
 use Rattle.gate_base.specs.Prelude.{Event}
 use Rattle.verdicts.specs.Prelude.{first_that_holds}
 use Rattle.verdicts.specs.declared.verdict.Verdict.{Verdict}
@@ -18,7 +18,7 @@ never_held : {S : Type 0} (rules : SessionRules S) (w : World S) (e : Event) →
 unfolding verdict
 never_held rules w e h = not_held (first_that_holds (tests rules (at_moment w e.moment) e)) h
 
-sooner : (events : List Event) (m n : ℕ) → m ≤ n → Rise n events → Rise m events
+pub sooner : (events : List Event) (m n : ℕ) → m ≤ n → Rise n events → Rise m events
 sooner [] m n least rise = tt
 sooner (e ∷ events) m n least rise = let more = rise.0 in (omega arith, rise.1)
 

@@ -32,7 +32,7 @@ use Rattle.gate_model.specs.Prelude.{destination_of, addresses_of, datagram_in, 
 use Rattle.gate_model.specs.Prelude.{world_tests, is_pool_empty, is_reachable, is_unknown, inside, uses_of, table_after, tests, verdict_of, next, out}
 use Rattle.gate_model.specs.Prelude.{out_by, out_kind, tcp_of, is_tracked_port, found_in, session_in, begins, is_opening, made_by, taker_by, taker_in}
 use Rattle.gate_model.specs.Prelude.{session_refusal, refusal_tests, unit_tests, growth_tests, lacks_session, is_full, names_in, image_in, stream_out}
-use Rattle.gate_model.specs.Verdict.{verdict}
+use Rattle.gate_model.specs.Verdict.{kind_tests, late_tests, payload_addresses, verdict}
 use Rattle.gate_model.specs.Stream.{has_tracked_port}
 use Rattle.gate_model.specs.Transparent.{IsTranslated, KeepsAlias, MeansOne, IsReply, own_tests, own_reason}
 use Rattle.gate_model.specs.Transparent.{IsUntracked, IsPlainKind, ComesBack, IsAbout, ComesHome}
@@ -335,6 +335,35 @@ segment_verdict {S = S} rules v r is addresses room =
     ∙ same_behind (own_tests r) (world_tests rules live r.side r.moment d Stream) last
     (stream_none rules live r.side r.moment d addresses room is.ports is.session))
 
+-- a frame whose addresses are no reason to refuse it is refused for what it is by itself, or for what it carries
+pub past_addresses : {S : Type 0} (rules : SessionRules S) (w : World S) (e : Event)
+    → first_that_holds (address_tests (at_moment w e.moment).table e.side (datagram_in e)) ≡ None
+    → verdict rules w e ≡ verdict_of (first_that_holds (own_tests e ++
+    (kind_tests rules (at_moment w e.moment) e.side e.moment (datagram_in e) (kind_of (datagram_in e))
+    ++ (is_pool_empty rules (at_moment w e.moment) e.side (datagram_in e) (kind_of (datagram_in e)), PoolEmpty)
+    ∷ late_tests rules (at_moment w e.moment) e.side e.moment (datagram_in e) (kind_of (datagram_in e)))))
+unfolding verdict
+past_addresses rules w e none =
+    let live = at_moment w e.moment in
+    let d = datagram_in e in
+    let rest : List (Bool × Refusal) = kind_tests rules live e.side e.moment d (kind_of d)
+    ++ (is_pool_empty rules live e.side d (kind_of d), PoolEmpty) ∷ late_tests rules live e.side e.moment d (kind_of d) in
+    let first = address_tests live.table e.side d in
+    ap verdict_of
+    (ap first_that_holds (sym (in_order (header_tests e) (datagram_tests d) (transport_tests d) (first ++ rest)))
+    ∙ same_behind (own_tests e) (first ++ rest) rest (ahead first rest none))
+
+-- where nothing more is named, the pool is asked for nothing
+pub none_named : {S : Type 0} (rules : SessionRules S) (w : World S) (e : Event)
+    → needed (at_moment w e.moment).table e.side (addresses_of (datagram_in e)) ≡ 0
+    → payload_addresses rules (at_moment w e.moment) e.side (datagram_in e) (kind_of (datagram_in e)) ≡ []
+    → is_pool_empty rules (at_moment w e.moment) e.side (datagram_in e) (kind_of (datagram_in e)) ≡ false
+none_named rules w e room none =
+    let live = at_moment w e.moment in
+    let d = datagram_in e in
+    ap (λ (names : List Addr). nat_lt (free live.table (other e.side)) (needed live.table e.side (addresses_of d ++ names))) none
+    ∙ ap (λ (n : ℕ). nat_lt (free live.table (other e.side)) n) room ∙ not_below (free live.table (other e.side))
+
 pub segment_out : {S : Type 0} (rules : SessionRules S) (v : World S) (r : Event) → IsUntracked v r
     → out_kind rules (at_moment v r.moment) r.side r.moment (datagram_in r) (kind_of (datagram_in r))
     ≡ renamed (datagram_in r) (sent_from rules v r).0 (sent_to rules v r).0 ∷ []
@@ -373,6 +402,8 @@ comes_back {S = S} rules w e between r lawful v reply before less = record {
   to = to;
   plain = plain;
   segment = λ is. segment_verdict rules (fold (next rules) (next rules w e) between) r is addresses room;
+  carries = past_addresses rules (fold (next rules) (next rules w e) between) r addresses;
+  pool = λ none. none_named rules (fold (next rules) (next rules w e) between) r room none;
   segment_sent = λ is passes.
       ap (out_by rules live r) passes ∙ segment_out rules (fold (next rules) (next rules w e) between) r is
       ∙ ap (λ (a : Addr). renamed dr a.0 (sent_to rules (fold (next rules) (next rules w e) between) r).0 ∷ []) from

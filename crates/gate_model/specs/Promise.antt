@@ -13,7 +13,7 @@ use Rattle.gate_settings.specs.declared.settings.Settings.{Settings}
 use Rattle.binding_table.specs.Prelude.{is_same}
 use Rattle.twice_translate.specs.Renamed.{datagram_of, renamed}
 use Rattle.gate_model.specs.Called.{CrossBack, IsKeptUntil, AllBefore, header_until, table_by, sent_from, sent_to}
-use Rattle.gate_model.specs.ForGood.{IsFixed, GetsThrough}
+use Rattle.gate_model.specs.ForGood.{IsFixed}
 use Rattle.gate_model.specs.Frame.{Dns, Whole, Stream, datagram_in, kind_of}
 use Rattle.gate_model.specs.GoingOn.{streams_of, OnlyRestsWait, HasDataSegment, GoesOnBy, ComesThrough}
 use Rattle.gate_model.specs.Held.{PairCrosses, KeepsLists, ListsCross, KeepsImages}
@@ -27,7 +27,7 @@ use Rattle.gate_model.specs.Step.{next, out, taker_in, translated}
 use Rattle.gate_model.specs.Stream.{has_tracked_port}
 use Rattle.gate_model.specs.Taken.{TakesSegment, said, taken_by}
 use Rattle.gate_model.specs.Transparent.{IsTranslated, KeepsAlias, NamesAreCalled, GoesOutCalled, IsReply, ComesBack, IsAbout, ComesHome}
-use Rattle.gate_model.specs.Transparent.{IsUntracked, ReachesHosts}
+use Rattle.gate_model.specs.Transparent.{GetsThrough, IsUntracked, ReachesHosts}
 use Rattle.gate_model.specs.Remembered.{RememberedSession, remembering_rules, SessionIs, EachTracked}
 use Rattle.stream_model.specs.Prelude.{acknowledged_of, own}
 use Rattle.gate_model.specs.Verdict.{tests, verdict}

@@ -6,7 +6,7 @@ use Rattle.verdicts.specs.Prelude.{first_that_holds}
 use Rattle.gate_base.specs.declared.address.Addr.{Addr}
 use Rattle.verdicts.specs.declared.verdict.Verdict.TheVariants.{Pass}
 use Rattle.verdicts.specs.declared.refusal.Refusal.{Refusal}
-use Rattle.verdicts.specs.declared.refusal.Refusal.TheVariants.{SessionsFull}
+use Rattle.verdicts.specs.declared.refusal.Refusal.TheVariants.{PoolEmpty, SessionsFull}
 use Rattle.gate_base.specs.declared.side.Side.{Side}
 use Rattle.binding_table.specs.Prelude.{Bindings, is_same, in_pool, seen, needed, image_after}
 use Rattle.icmp_errors.specs.Inner.{inner_fields, inner_with}
@@ -18,7 +18,7 @@ use Rattle.gate_model.specs.Names.{message_in, named_in, carried, reply_by}
 use Rattle.gate_model.specs.Rules.{SessionRules}
 use Rattle.gate_model.specs.Step.{out}
 use Rattle.gate_model.specs.Stream.{found_in, has_tracked_port, session_in, is_full}
-use Rattle.gate_model.specs.Verdict.{address_tests, is_reachable, verdict, verdict_of}
+use Rattle.gate_model.specs.Verdict.{address_tests, is_pool_empty, is_reachable, kind_tests, late_tests, payload_addresses, verdict, verdict_of}
 use Rattle.gate_model.specs.Held.{host_in}
 use Rattle.gate_model.specs.World.{Tracked, World, at_moment, source_of, destination_of, addresses_of}
 use Rattle.tcp_tracker.specs.declared.connection.Connection.{Connection}
@@ -95,23 +95,31 @@ pub record IsUntracked {S : Type 0} (v : World S) (r : Event) : Type 0 where
   pub ports : has_tracked_port (datagram_in r) ≡ false
   pub session : session_in (found_in (at_moment v r.moment) r.side (datagram_in r)) ≡ None
 
--- a reply comes back:
-pub record ComesBack {S : Type 0} (rules : SessionRules S) (e : Event) (v : World S) (r : Event) : Type 0 where
+-- a frame gets through, from an alias to a host, whatever others do:
+pub record GetsThrough {S : Type 0} (rules : SessionRules S) (v : World S) (r : Event) (alias host : Addr) : Type 0 where
   -- neither of its addresses is a reason to refuse it, and neither needs a new alias;
   pub addresses : first_that_holds (address_tests (at_moment v r.moment).table r.side (datagram_in r)) ≡ None
   pub room : needed (at_moment v r.moment).table r.side (addresses_of (datagram_in r)) ≡ 0
-  -- what goes out for it goes from the address to which the first frame went, to the host that sent that
-  pub from : sent_from rules v r ≡ destination_of (datagram_in e)
-  pub to : sent_to rules v r ≡ source_of (datagram_in e)
-  -- and where nothing behind its headers is looked at, it is refused only for what it is by itself, and carries what it carried
+  -- what goes out for it goes from the alias to the host;
+  pub from : sent_from rules v r ≡ alias
+  pub to : sent_to rules v r ≡ host
+  -- where nothing behind its headers is looked at, it is refused only for what it is by itself, and carries what it carried;
   pub plain : IsPlainKind (kind_of (datagram_in r)) → verdict rules v r ≡ verdict_of (own_reason r)
-  pub sent : IsPlainKind (kind_of (datagram_in r)) → own_reason r ≡ None
-      → out rules v r ≡ renamed (datagram_in r) (datagram_in e).destination (datagram_in e).source ∷ []
-  -- so does a TCP segment that no session tracks, as long as there is room for its connection
+  pub sent : IsPlainKind (kind_of (datagram_in r)) → own_reason r ≡ None → out rules v r ≡ renamed (datagram_in r) alias.0 host.0 ∷ []
+  -- so does a TCP segment that no session tracks, as long as there is room for its connection;
   pub segment : IsUntracked v r → let live = at_moment v r.moment in let d = datagram_in r in
       verdict rules v r ≡ verdict_of (first_that_holds (own_tests r ++ (is_full live.connections (found_in live r.side d) d, SessionsFull) ∷ []))
-  pub segment_sent : IsUntracked v r → verdict rules v r ≡ Pass
-      → out rules v r ≡ renamed (datagram_in r) (datagram_in e).destination (datagram_in e).source ∷ []
+  pub segment_sent : IsUntracked v r → verdict rules v r ≡ Pass → out rules v r ≡ renamed (datagram_in r) alias.0 host.0 ∷ []
+  -- and any other one is refused only for what it is by itself, for what it carries, or for want of aliases, where that names addresses
+  pub carries : let live = at_moment v r.moment in let d = datagram_in r in
+      verdict rules v r ≡ verdict_of (first_that_holds (own_tests r ++ (kind_tests rules live r.side r.moment d (kind_of d)
+      ++ (is_pool_empty rules live r.side d (kind_of d), PoolEmpty) ∷ late_tests rules live r.side r.moment d (kind_of d))))
+  pub pool : let live = at_moment v r.moment in let d = datagram_in r in
+      payload_addresses rules live r.side d (kind_of d) ≡ [] → is_pool_empty rules live r.side d (kind_of d) ≡ false
+
+-- a reply comes back: it gets through to the host that sent the first frame, from the address to which that went
+abbrev pub ComesBack : {S : Type 0} → SessionRules S → Event → World S → Event → Type 0
+ComesBack rules e v r = GetsThrough rules v r (destination_of (datagram_in e)) (source_of (datagram_in e))
 
 -- ## ICMP errors
 

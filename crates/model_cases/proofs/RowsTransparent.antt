@@ -389,4 +389,4 @@ not_from_it one = let same = ap (λ (m : Moment). m.0) one.until in absurd (omeg
 -- one that is longer than a datagram holds is refused for that
 too_long : (table : Bindings) (side : Side) (d : Datagram) → 65507 < length (management_after table side d)
     → first_that_holds (image_tests table side d Snmp) ≡ Some SnmpTooLong
-too_long table side d longer = rw (lt-ltb 65507 (length (management_after table side d)) longer) refl
+too_long table side d more = rw (lt-ltb 65507 (length (management_after table side d)) more) refl
