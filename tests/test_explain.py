@@ -500,7 +500,7 @@ class Lines(InRoom):
     @unittest.skipUnless(os.path.exists(f"{TOP}/crates"), "the crates stand in a checkout alone")
     def test_each_verdict_is_told(self) -> None:
         """REPORT.md has what to do for each refusal that the program knows."""
-        if not os.path.exists(source := f"{TOP}/crates/gate_base/src/refusal.rt"):
+        if not os.path.exists(source := f"{TOP}/crates/verdicts/src/refusal.rt"):
             self.skipTest("only a checkout has the crates")
         with open(source, encoding="utf-8") as file:
             names = set(re.findall(r"^    ([A-Z][A-Za-z0-9]+),", file.read(), re.MULTILINE))

@@ -126,7 +126,7 @@ def main():
     joins = "◌++◌, " if any("++ hex" in text for text in texts) else ""
     print("use Rattle.std.proofs.Common.{%s◌≡◌, true, false, List, [], ◌∷◌, refl}" % joins)
     if refusals:
-        print("use Rattle.gate_base.specs.declared.refusal.Refusal.TheVariants.{%s}" % ", ".join(sorted(refusals)))
+        print("use Rattle.verdicts.specs.declared.refusal.Refusal.TheVariants.{%s}" % ", ".join(sorted(refusals)))
     print("use Rattle.gate_base.specs.declared.side.Link.TheVariants.{Ethernet, Raw}")
     print("use Rattle.gate_base.specs.declared.side.Side.TheVariants.{Left, Right}")
     print("use Rattle.gate_settings.specs.declared.settings.Settings.{Settings}")

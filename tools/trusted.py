@@ -22,10 +22,11 @@ STATEMENTS: dict[str, Word] = {
     "Promised": ("Rattle.gate_model.specs.Promise", "Promised"),
     "KeepsPromise": ("Rattle.gateway.specs.Promise", "KeepsPromise"),
     "Answers": ("Rattle.gate_command.specs.Answers", "Answers"),
+    "IsFinished": ("Rattle.gate_command.specs.Exit", "IsFinished"),
 }
 """From the least to the greatest: each rests on the one before."""
 
-BESIDE: dict[str, set[Word]] = {"Answers": {("Rattle.run_setup.specs.Command", "command_of")}}
+BESIDE: dict[str, set[Word]] = {name: {("Rattle.run_setup.specs.Command", "command_of")} for name in ("Answers", "IsFinished")}
 """Words that the contract names beside its statement."""
 
 DECIDING = (
@@ -37,7 +38,8 @@ DECIDING = (
     ("gate_model", "Promise", "what is promised of each frame and each session (`Promised`)"),
     ("gate_model", "Called", "which frames name a pair of addresses"),
     ("gate_model", "Origins", "why an alias lives"),
-    ("gate_model", "Transparent", "what is promised of replies (`ComesBack`, `ComesHome`)"),
+    ("gate_model", "Transparent", "what gets through (`GetsThrough`), and comes back (`ComesBack`, `ComesHome`)"),
+    ("gate_model", "ForGood", "what settings say for good (`IsFixed`)"),
     ("gateway", "Machine", "what each frame writes to the captures and the report"),
     ("gateway", "Promise", "where that stands in the files (`KeepsPromise`)"),
     ("gate_command", "Answers", "what the whole call answers (`Answers`)"),
@@ -70,6 +72,8 @@ class Module:
     built: dict[str, str] = field(default_factory=dict)
     imported: dict[str, Word] = field(default_factory=dict)
     renamed: dict[str, str] = field(default_factory=dict)
+    is_nested: bool = False
+    """Some definitions stand in a module of their own within the file, where they aren't told apart."""
 
     def take_import(self, line: str) -> bool:
         """Whether a line imports, and then what."""
@@ -90,6 +94,7 @@ def read(path: Path) -> Module:
     for line in path.read_text("utf-8").splitlines():
         if not line.strip() or line.lstrip().startswith("--") or module.take_import(line) or re.match(r"(pub )?mod |infix", line):
             continue
+        module.is_nested |= line.startswith("module ")
         if head := HEAD.match(line):
             name = head[1] or head[2]
         module.defined.setdefault(name, []).append(line)
@@ -213,9 +218,15 @@ class Page:
 
     def __init__(self) -> None:
         self.needed = {name: rests_on({word} | BESIDE.get(name, set())) for name, word in STATEMENTS.items()}
-        self.all = self.needed["Answers"]
+        self.all = self.needed["IsFinished"]
         if astray := sorted(" ".join(word) for word in self.all if INSIDE in word[0]):
             sys.exit(f"tools/trusted.py: a statement rests on what only proofs should need: {', '.join(astray)}")
+        for module in {word[0] for word in self.all}:
+            origins = {origin for origin, _ in MODULES[module].imported.values()} | set(MODULES[module].renamed.values())
+            if astray := sorted(origin for origin in origins if ".proofs." in origin and origin.split(".")[1] in ORDER):
+                sys.exit(f"tools/trusted.py: {module} imports from proofs, where nothing is counted: {', '.join(astray)}")
+        if nested := sorted({word[0] for word in self.all if MODULES[word[0]].is_nested}):
+            sys.exit(f"tools/trusted.py: definitions of nested modules can't be told apart: {', '.join(nested)}")
         self.cases = cases() & self.all
         self.laws: dict[tuple[str, str], set[Word]] = defaultdict(set)
         self.by_law: set[Word] = set()
@@ -235,8 +246,8 @@ class Page:
         return found
 
     def names(self, words: set[Word]) -> str:
-        """The names of definitions, with the mark of the statement that needs them."""
-        marks = {word: "" if word in self.needed["Promised"] else "¹" if word in self.needed["KeepsPromise"] else "²" for word in words}
+        """The names of definitions, with the mark of the least statement that needs them."""
+        marks = {word: mark for mark, needed in reversed(list(zip(("", "¹", "²", "³"), self.needed.values()))) for word in words & needed}
         return ", ".join(f"`{name}`{marks[module, name]}" for module, name in sorted(words))
 
     def deciding(self) -> Iterator[str]:
@@ -284,14 +295,14 @@ class Page:
 
     def by_pin(self) -> Iterator[str]:
         """The amounts of what laws and cases name."""
-        yield "| Definitions of `Answers` that | Number | Lines | Modules |\n|---|---|---|---|"
+        yield "| Definitions of `IsFinished` that | Number | Lines | Modules |\n|---|---|---|---|"
         yield f"| a law names | {amounts(self.by_law)} |"
         yield f"| no law names, but a case | {amounts(self.cases - self.by_law)} |"
         yield f"| neither names | {amounts(self.all - self.by_law - self.cases)} |"
 
     def table(self) -> Iterator[str]:
         """The amounts of each crate, for each statement."""
-        yield "| Crate | `Promised` | `KeepsPromise` | `Answers` | Modules | Named by a law | By a case alone | By neither |\n|---|---|---|---|---|---|---|---|"
+        yield "| Crate | `Promised` | `KeepsPromise` | `Answers` | `IsFinished` | Modules | Named by a law | By a case alone | By neither |\n|---|---|---|---|---|---|---|---|---|"
         for crate in ORDER:
             parts = [{word for word in words if crate_of(word) == crate} for words in self.needed.values()]
             if parts[-1]:
@@ -334,7 +345,8 @@ FRAME = """# What you have to believe
 
 The prover shows that the code does what definitions say. Whether these say what a gateway has to do, no proof can tell: you read them. This page says
 what there is to read, and how much. `tools/trusted.py >docs/TRUSTED.md` writes it, and `tests/run` fails where it isn't current.
-[PROVED](PROVED.md) says what is proved in words, and what else is trusted.
+[PROVED](PROVED.md) says what is proved in words, and what else is trusted. The [page of each crate](../crates/README.md) explains the words of its
+definitions.
 
 ## Read these first
 
@@ -344,8 +356,9 @@ An hour is enough for what decides. Everything else on this page is what their w
 
 ## What the statements rest on
 
-`Answers` is the contract of the program's one call: a run, a make, an audit or a usage. It contains `KeepsPromise`, which is about what a run writes.
-That contains `Promised`, which is about the frames that come to the gate, whatever they are.
+`IsFinished` is the contract of the program over real files, `carry_out`: which exit status it ends with. It contains `Answers`, that of the one call
+that carries out a command: a run, a make, an audit or a usage. That contains `KeepsPromise`, which is about what a run writes, and that `Promised`, which
+is about the frames that come to the gate, whatever they are. Over real files `Answers` says nothing of contents, since a file doesn't tell them.
 
 A definition counts if the statement names it, or the contract that applies the statement, or another one that counts. Types that the code declares
 and words of the toolchain don't count. None stands in `specs/Inside/`, which has what only proofs and private contracts need.
@@ -379,7 +392,7 @@ Under each statement stand its definitions and lines.
 ## Their words
 
 Under each crate stand its modules with their lines, then what each law and the cases name, and at last what neither does, with the standards that
-comments of the crate cite. A word with ¹ isn't needed for `Promised`, and one with ² only for `Answers`.
+comments of the crate cite. A word with ¹ isn't needed for `Promised`, one with ² only for `Answers` and `IsFinished`, and one with ³ only for that.
 {sections}
 """.replace("{{minute}}", str(MINUTE))
 

@@ -1,7 +1,7 @@
 -- What a session that begins refuses depends neither on its hosts nor on what they speak.
 use Rattle.std.proofs.Common.{◌≡◌, ℕ, Option, Some, None, refl, sym, ◌∙◌}
 use Rattle.gate_base.specs.declared.event.Pair.{Pair}
-use Rattle.gate_base.specs.declared.refusal.Refusal.{Refusal}
+use Rattle.verdicts.specs.declared.refusal.Refusal.{Refusal}
 use Rattle.gate_base.specs.declared.host.Host.TheVariants.{Client}
 use Rattle.stream_model.specs.Prelude.{Segment}
 use Rattle.gate_model.specs.Prelude.{Lists, lists_at}

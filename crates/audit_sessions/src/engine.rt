@@ -9,9 +9,10 @@ use event_outbox::{Datagrams, Segment};
 use event_payloads::Way;
 use event_segments::Workspace;
 use event_state::{Engine, Stepped};
-use gate_base::{Host, OutOfMemory, Pair, Refusal};
+use gate_base::{Host, OutOfMemory, Pair};
 use std::alloc::Global;
 use tcp_segments::TcpView;
+use verdicts::Refusal;
 
 impl Engine for AuditedSession {
     ghost use Rattle.lawful_files.specs.Prelude.{Wanted};

@@ -18,10 +18,11 @@ use audit_streams::{Sent, WholeStreams};
 use dns_plans::{Completed, Entry, Session, UnitOctets};
 use dns_stream::DnsUnits;
 use ftp_lines::{ClientLines, ServerLines};
-use gate_base::{Addr, DNS_PORT, Host, OutOfMemory, Pair, Refusal};
+use gate_base::{Addr, DNS_PORT, Host, OutOfMemory, Pair};
 use std::alloc::Global;
 use std::marker::Model;
 use tcp_segments::{DEFAULT_SEGMENT_SIZE, TcpView, flags_of};
+use verdicts::Refusal;
 
 /// A session of one of two kinds: of FTP, which has no lists, or of DNS. It is seen as what was heard of its hosts, and answers as the
 /// rules of such sessions say.

@@ -14,7 +14,7 @@ ghost use Rattle.audit_streams.specs.Sending.{CanTake, handed};
 use crate::host::WholeStream;
 use crate::sent::Sent;
 use dialogue::{Dialogue, Learns, UnitImage};
-use gate_base::{Addr, Host, OutOfMemory, Refusal};
+use gate_base::{Addr, Host, OutOfMemory};
 use std::alloc::Global;
 use std::marker::Model;
 use stream_model::{
@@ -22,6 +22,7 @@ use stream_model::{
     inner_number, place_acknowledged, refusal, start_at,
 };
 use tcp_segments::{DEFAULT_SEGMENT_SIZE, MOST_PAYLOAD, TcpView, flags_octet, flags_of};
+use verdicts::Refusal;
 
 /// A session that keeps all octets of both hosts, what their octets become on the way, and where units with another image stand. It
 /// takes some two octets of memory for each octet, and 16 for each such unit.

@@ -1,7 +1,7 @@
 -- What is kept of a session.
 use Rattle.std.specs.Prelude.{ℕ, false, [], Option, Some, None}
 use Rattle.shift_ledger.specs.Prelude.{Kept}
-use Rattle.gate_base.specs.declared.refusal.Refusal.{Refusal}
+use Rattle.verdicts.specs.declared.refusal.Refusal.{Refusal}
 use Rattle.gate_base.specs.declared.host.Host.{Host}
 use Rattle.gate_base.specs.declared.host.Host.TheVariants.{Client, Server}
 use Rattle.dialogue.specs.Prelude.{Meaning}

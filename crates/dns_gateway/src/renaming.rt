@@ -59,6 +59,7 @@ fn rename_resource(
     let after = behind + count_of(value);
     let owner = image_of(owner, images, place);
     let value = image_of(value, images, behind);
+    // The TTL of a renamed record is 0: an image holds no longer than its binding (RFC 2694).
     if owner.is_some() || value.is_some() {
         resource.lifetime = 0;
     }

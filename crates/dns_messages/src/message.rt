@@ -35,7 +35,7 @@ pub struct Resource {
     pub name: Name,
     pub kind: u16,
     pub class: u16,
-    /// How many seconds the record may be kept.
+    /// How many seconds the record may be kept, its TTL.
     pub lifetime: u32,
     pub content: Content,
 }

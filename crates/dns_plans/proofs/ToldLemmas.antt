@@ -1,10 +1,11 @@
 -- What the tests of units tell.
 use Rattle.std.proofs.Common.{◌≡◌, ◌≤◌, ℕ, Bool, true, false, cond, List, [], length, refl, sym, subst, ◌∙◌, ap, arith, map, nat_lt, Option, Some, None, Result, Ok, Err, IfOk, IfErr, is_some}
 use Rattle.std.specs.List.{list_any}
-use Rattle.gate_base.specs.Prelude.{other, first_that_holds}
+use Rattle.gate_base.specs.Prelude.{other}
+use Rattle.verdicts.specs.Prelude.{first_that_holds}
 use Rattle.gate_base.specs.declared.address.Addr.{Addr}
-use Rattle.gate_base.specs.declared.refusal.Refusal.{Refusal}
-use Rattle.gate_base.specs.declared.refusal.Refusal.TheVariants.{RenamesFull, PoolEmpty, UnitGrows}
+use Rattle.verdicts.specs.declared.refusal.Refusal.{Refusal}
+use Rattle.verdicts.specs.declared.refusal.Refusal.TheVariants.{RenamesFull, PoolEmpty, UnitGrows}
 use Rattle.binding_table.specs.Prelude.{Bindings, free, needed}
 use Rattle.dialogue.specs.Prelude.{Entry, AreImages, Meaning}
 use Rattle.dns_stream.specs.Prelude.{dns_units, unit_end}

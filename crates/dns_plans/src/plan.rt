@@ -1,6 +1,6 @@
 // What units do.
 ghost use Rattle.std.specs.Prelude.{◌≡◌, ◌≢◌, ◌≤◌, ◌∷◌, [], None, Err, length, IfOk, IfErr};
-ghost use Rattle.gate_base.specs.Prelude.{first_that_holds};
+ghost use Rattle.verdicts.specs.Prelude.{first_that_holds};
 ghost use Rattle.dns_plans.specs.Inside.Steps.{none_tests};
 ghost use Rattle.dns_plans.specs.Plans.{whole_units, AreBound, IsListBound, TellsFirst};
 ghost use Rattle.dns_plans.specs.Planned.{IsPlan, IsStopped};
@@ -15,8 +15,9 @@ use crate::stop::PlanStop;
 use binding_table::{SeenAddresses, Table};
 use dialogue::UnitImage;
 use dns_stream::{Entry, UnitStop, unit_end};
-use gate_base::{Addr, Refusal, Side};
+use gate_base::{Addr, Side};
 use std::alloc::Global;
+use verdicts::Refusal;
 
 /// The realm that sends a segment, and both addresses of its header.
 #[derive(Clone, Copy)]

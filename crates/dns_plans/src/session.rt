@@ -8,9 +8,10 @@ ghost use Rattle.gate_model.specs.Prelude.{SessionRules, host_on};
 
 use crate::octets::UnitOctets;
 use dns_stream::Entry;
-use gate_base::{Addr, Host, Pair, Refusal, Side};
+use gate_base::{Addr, Host, Pair, Side};
 use std::marker::Model;
 use tcp_segments::TcpView;
+use verdicts::Refusal;
 
 /// A tracked session, whatever it keeps of what passed.
 pub trait Session {

@@ -2,7 +2,8 @@
 ghost use Rattle.std.specs.Prelude.{◌≡◌};
 ghost use Rattle.dns_plans.specs.declared.stop.PlanStop.TheVariants as stops;
 
-use gate_base::{OutOfMemory, Refusal};
+use gate_base::OutOfMemory;
+use verdicts::Refusal;
 
 /// Why units have no plan.
 #[derive(Clone, Copy, Debug, PartialEq, Eq)]

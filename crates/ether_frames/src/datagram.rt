@@ -7,8 +7,8 @@ use crate::head::IPV4;
 use crate::view::EtherView;
 use gate_base::{Event, Link};
 
-/// The octets in which the datagram of an event's frame stands. An Ethernet frame that carries anything but IPv4, or has fewer
-/// than 14 octets, has none.
+/// The octets in which the datagram of an event's frame stands. An Ethernet frame that carries anything but IPv4, as one
+/// with a VLAN tag, or has fewer than 14 octets, has none.
 pub fn octets_in<'a>(event: &Event<'a>) -> &'a [u8]
     ensures { result.now
         ≡ octets_in (event_of event.now).link (event_of event.now).octets }

@@ -5,7 +5,7 @@ use Rattle.twice_translate.specs.Renamed.{IsAccepted, datagram_of}
 use Rattle.twice_translate.specs.Content.{read_content}
 use Rattle.twice_translate.proofs.Accepted.{reads}
 use Rattle.twice_translate.proofs.Cut.{cut_goes_on, cut_same}
-use Rattle.gate_base.specs.Prelude.{first_that_holds}
+use Rattle.verdicts.specs.Prelude.{first_that_holds}
 use Rattle.gate_model.specs.Prelude.{datagram_tests, transport_tests}
 use Rattle.event_frame.specs.declared.content.Content.{Content}
 use Rattle.event_frame.specs.Frames.{IsJudged}

@@ -2,7 +2,7 @@
 use Rattle.std.specs.Prelude.{◌≡◌, ◌==◌, Bool, false, List, ◌++◌}
 use Rattle.gate_base.specs.Prelude.{Event}
 use Rattle.gate_base.specs.declared.protocol.TheConstants.{TCP, UDP}
-use Rattle.gate_base.specs.declared.refusal.Refusal.{Refusal}
+use Rattle.verdicts.specs.declared.refusal.Refusal.{Refusal}
 use Rattle.ipv4_frames.specs.Ipv4.{Datagram}
 use Rattle.udp_icmp.specs.Icmp.{icmp_fields_of}
 use Rattle.udp_icmp.specs.Udp.{udp_fields_of}

@@ -1,15 +1,17 @@
 // A frame by itself: the datagram in it, and the reasons to refuse it that ask for nothing that is known.
 ghost use Rattle.std.specs.Prelude.{◌≡◌, ◌≤◌, None, Ok, length, IfOk};
-ghost use Rattle.gate_base.specs.Prelude.{event_of, first_that_holds};
+ghost use Rattle.gate_base.specs.Prelude.{event_of};
+ghost use Rattle.verdicts.specs.Prelude.{first_that_holds};
 ghost use Rattle.ether_frames.specs.Ether.{octets_in};
 ghost use Rattle.ipv4_frames.specs.Ipv4.{read_datagram};
 ghost use Rattle.gate_model.specs.Frame as frame;
 ghost use Rattle.event_frame.specs.Inside.Judged.{ip_refusal, transport_refusal, judged, Carries};
 
-use gate_base::{Event, ICMP, Refusal, TCP, UDP, is_unicast};
+use gate_base::{Event, ICMP, TCP, UDP, is_unicast};
 use ipv4_frames::{IpFault, IpView, TransportFault};
 use tcp_segments::TcpView;
 use udp_icmp::{IcmpView, UdpView};
+use verdicts::Refusal;
 
 /// What a datagram carries.
 #[derive(Drop)]

@@ -4,8 +4,9 @@ ghost use Rattle.event_frame.specs.Frames.{JudgedBy};
 
 use crate::content::{Content, content_of, datagram_in, datagram_refusal};
 use ether_frames::octets_in;
-use gate_base::{Event, Refusal, get_u16};
+use gate_base::{Event, get_u16};
 use ipv4_frames::IpView;
+use verdicts::Refusal;
 
 /// A datagram whose headers are good, and the octets in which it stands.
 #[derive(Drop)]

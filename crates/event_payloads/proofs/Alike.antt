@@ -1,6 +1,6 @@
 -- What no session takes is the same whatever sessions there are.
 use Rattle.std.proofs.Common.{◌≡◌, ℕ, true, List, Option}
-use Rattle.gate_base.specs.declared.refusal.Refusal.{Refusal}
+use Rattle.verdicts.specs.declared.refusal.Refusal.{Refusal}
 use Rattle.gate_base.specs.declared.side.Side.{Side}
 use Rattle.binding_table.specs.Prelude.{Bindings}
 use Rattle.ipv4_frames.specs.Ipv4.{Datagram}

@@ -5,7 +5,8 @@ use Rattle.std.proofs.Common.{◌∙◌, arith, eq-eqb, length-drop, IfOk, is_no
 use Rattle.std.proofs.lemmas.Bool.{true≢false, ltb-false, le-ltb, or_parts}
 use Rattle.std.proofs.lemmas.Bool.Decides.{nat_tests}
 use Rattle.std.proofs.lemmas.List.Elements.{All-nil, All-cons}
-use Rattle.gate_base.specs.Prelude.{u16_at, with_u16, other, first_that_holds, unless_refused}
+use Rattle.gate_base.specs.Prelude.{u16_at, with_u16, other}
+use Rattle.verdicts.specs.Prelude.{first_that_holds, unless_refused}
 use Rattle.gate_base.specs.declared.address.Addr.{Addr}
 use Rattle.gate_base.specs.declared.event.Moment.{Moment}
 use Rattle.gate_base.specs.declared.side.Side.{Side}
@@ -22,8 +23,8 @@ use Rattle.twice_translate.specs.Content.{of_udp, read_content}
 use Rattle.twice_translate.specs.Renamed.{CanGoOn, datagram_of, renamed, rebuilt}
 use Rattle.twice_translate.proofs.Accepted.{ok_as, reads_udp}
 use Rattle.udp_icmp.proofs.Sealed.{long_segment}
-use Rattle.gate_base.specs.declared.refusal.Refusal.{Refusal}
-use Rattle.gate_base.specs.declared.refusal.Refusal.TheVariants.{BadDns, DnsUnbound, PoolEmpty}
+use Rattle.verdicts.specs.declared.refusal.Refusal.{Refusal}
+use Rattle.verdicts.specs.declared.refusal.Refusal.TheVariants.{BadDns, DnsUnbound, PoolEmpty}
 use Rattle.gate_model.specs.Prelude.{Whole, Dns, Udp, carried, message_in, named_in, is_unbound, has_unbound, reply_by}
 use Rattle.gate_model.specs.Prelude.{names_after, uses_until, World, source_of, destination_of, called, SessionRules}
 use Rattle.gate_model.specs.declared.timeouts.TheConstants.{NAMED_TIMEOUT, UDP_TIMEOUT}

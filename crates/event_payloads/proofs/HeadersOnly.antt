@@ -1,13 +1,14 @@
 -- Datagrams of which only the header is renamed.
 use Rattle.std.proofs.Common.{◌≡◌, ◌+◌, ℕ, Bool, true, false, List, [], ◌∷◌, Option, refl, sym, ap, ◌∙◌, ◌||◌, ◌==◌, slice_index}
 use Rattle.gate_base.specs.declared.address.Addr.{Addr}
-use Rattle.gate_base.specs.declared.refusal.Refusal.{Refusal}
-use Rattle.gate_base.specs.declared.refusal.Refusal.TheVariants.{PoolEmpty}
+use Rattle.verdicts.specs.declared.refusal.Refusal.{Refusal}
+use Rattle.verdicts.specs.declared.refusal.Refusal.TheVariants.{PoolEmpty}
 use Rattle.gate_base.specs.declared.side.Side.{Side}
 use Rattle.binding_table.specs.Prelude.{Bindings, cross, is_settled, Use, after_uses}
 use Rattle.ipv4_frames.specs.Ipv4.{Datagram}
 use Rattle.twice_translate.specs.Renamed.{renamed}
-use Rattle.gate_base.specs.Prelude.{first_that_holds, unless_refused, u16_at}
+use Rattle.gate_base.specs.Prelude.{u16_at}
+use Rattle.verdicts.specs.Prelude.{first_that_holds, unless_refused}
 use Rattle.udp_icmp.specs.Icmp.{is_error_type}
 use Rattle.gate_model.specs.Prelude.{Whole, Udp, Echo, udp_payload, icmp_payload, is_pool_empty}
 use Rattle.gate_model.specs.Prelude.{uses_until, World, source_of, destination_of, called, SessionRules}

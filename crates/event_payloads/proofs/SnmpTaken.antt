@@ -3,8 +3,8 @@ use Rattle.std.proofs.Common.{◌≡◌, ◌≤◌, ◌+◌, ◌==◌, inl, inr,
 use Rattle.std.proofs.Common.{Option, Some, None, refl, sym, ap, subst, ◌∙◌, arith, option_map, is_some, is_none, IsSome}
 use Rattle.std.proofs.lemmas.Bool.{cases_Bool, eqb-true, eq-eqb, false≢true, le-ltb}
 use Rattle.gate_base.specs.declared.address.Addr.{Addr}
-use Rattle.gate_base.specs.declared.refusal.Refusal.{Refusal}
-use Rattle.gate_base.specs.declared.refusal.Refusal.TheVariants.{BadSnmp, PoolEmpty, SnmpTooLong}
+use Rattle.verdicts.specs.declared.refusal.Refusal.{Refusal}
+use Rattle.verdicts.specs.declared.refusal.Refusal.TheVariants.{BadSnmp, PoolEmpty, SnmpTooLong}
 use Rattle.gate_base.specs.declared.side.Side.{Side}
 use Rattle.gate_base.specs.declared.event.Moment.{Moment}
 use Rattle.gate_base.specs.declared.rule.OidRule.{OidRule}
@@ -20,7 +20,7 @@ use Rattle.snmp_gateway.specs.declared.message.SnmpKind.{SnmpKind}
 use Rattle.snmp_oids.specs.Elements.{oid_renamed}
 use Rattle.snmp_oids.proofs.Lengths.{message_length}
 use Rattle.snmp_oids.proofs.Messages.{no_rule}
-use Rattle.gate_base.specs.Prelude.{first_that_holds, unless_refused}
+use Rattle.verdicts.specs.Prelude.{first_that_holds, unless_refused}
 use Rattle.twice_translate.specs.Renamed.{rebuilt}
 use Rattle.gate_model.specs.Prelude.{Whole, Snmp, number_seen, management_after, is_snmp_too_long, carried, kind_tests, late_tests}
 use Rattle.gate_model.specs.Prelude.{is_pool_empty, table_after, uses_until, World, source_of, destination_of, called, SessionRules}

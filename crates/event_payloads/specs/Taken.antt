@@ -1,11 +1,11 @@
 -- What becomes of a datagram by what it carries.
 use Rattle.std.specs.Prelude.{[], ◌≡◌, ◌≤◌, ℕ, length, false, true, List, ◌∷◌, ◌++◌, Option}
-use Rattle.gate_base.specs.declared.refusal.Refusal.{Refusal}
-use Rattle.gate_base.specs.declared.refusal.Refusal.TheVariants.{PoolEmpty}
+use Rattle.verdicts.specs.declared.refusal.Refusal.{Refusal}
+use Rattle.verdicts.specs.declared.refusal.Refusal.TheVariants.{PoolEmpty}
 use Rattle.gate_base.specs.declared.side.Side.{Side}
 use Rattle.binding_table.specs.Prelude.{Bindings, in_pool, is_settled}
 use Rattle.ipv4_frames.specs.Ipv4.{Datagram}
-use Rattle.gate_base.specs.Prelude.{first_that_holds, unless_refused}
+use Rattle.verdicts.specs.Prelude.{first_that_holds, unless_refused}
 use Rattle.gate_base.specs.declared.protocol.TheConstants.{LONGEST_DATAGRAM, UDP}
 use Rattle.twice_translate.specs.Renamed.{CanGoOn, datagram_of}
 use Rattle.gate_model.specs.Prelude.{Kind, carried, out_kind, kind_tests, late_tests, is_pool_empty, table_after, World, source_of, destination_of, SessionRules}

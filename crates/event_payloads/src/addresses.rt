@@ -1,12 +1,14 @@
 // The addresses of a datagram: what they are called in the other realm, and what a use of them changes.
 ghost use Rattle.std.specs.Prelude.{◌≡◌, None, true};
-ghost use Rattle.gate_base.specs.Prelude.{IsMoment, IsTimeout, first_that_holds};
+ghost use Rattle.gate_base.specs.Prelude.{IsMoment, IsTimeout};
+ghost use Rattle.verdicts.specs.Prelude.{first_that_holds};
 ghost use Rattle.binding_table.specs.Prelude.{cross, seen, is_settled, used, used_by, after_uses};
 ghost use Rattle.gate_model.specs.Prelude.{is_reachable, uses_until};
 ghost use Rattle.event_payloads.specs.Ways.{IsWay, image_by, is_empty, way_tests, header_uses};
 
 use binding_table::{Crossing, Table};
-use gate_base::{Addr, Moment, Refusal, Side};
+use gate_base::{Addr, Moment, Side};
+use verdicts::Refusal;
 
 /// A datagram's way: the realm from which it comes, the moment, both addresses, and how they cross.
 #[derive(Clone, Copy)]

@@ -24,9 +24,10 @@ use dns_gateway::{addresses_of, rename, reply};
 use dns_messages::{Message, read_message};
 use dns_names::NameStop;
 use event_outbox::{Datagrams, put_rebuilt, put_renamed};
-use gate_base::{Addr, Moment, OutOfMemory, Refusal, Side};
+use gate_base::{Addr, Moment, OutOfMemory, Side};
 use gate_model::{NAMED_TIMEOUT, UDP_TIMEOUT};
 use std::alloc::Global;
+use verdicts::Refusal;
 
 /// The message that the octets are, or None where they are none.
 fn message_in(alloc: Global, octets: &[u8]) -> Result<Option<Message>, OutOfMemory>

@@ -1,9 +1,10 @@
 // Datagrams of which only the header is renamed: other UDP, echoes, and segments that no session takes.
 ghost use Rattle.std.specs.Prelude.{◌≡◌, ◌≤◌, [], ◌∷◌, None, length, true};
-ghost use Rattle.gate_base.specs.Prelude.{IsMoment, IsTimeout, first_that_holds, unless_refused};
+ghost use Rattle.gate_base.specs.Prelude.{IsMoment, IsTimeout};
+ghost use Rattle.verdicts.specs.Prelude.{first_that_holds, unless_refused};
 ghost use Rattle.binding_table.specs.Prelude.{after_uses, is_settled};
 ghost use Rattle.twice_translate.specs.Renamed.{CanGoOn, datagram_of, renamed};
-ghost use Rattle.gate_base.specs.declared.refusal.Refusal.TheVariants.{PoolEmpty};
+ghost use Rattle.verdicts.specs.declared.refusal.Refusal.TheVariants.{PoolEmpty};
 ghost use Rattle.gate_base.specs.declared.protocol.TheConstants.{LONGEST_DATAGRAM};
 ghost use Rattle.gate_model.specs.Prelude.{uses_until};
 ghost use Rattle.event_payloads.specs.Ways.{IsWay, image_by, is_empty, header_uses};
@@ -11,7 +12,7 @@ ghost use Rattle.event_payloads.specs.Ways.{IsWay, image_by, is_empty, header_us
 use crate::addresses::{Way, lacks_alias};
 use binding_table::Table;
 use event_outbox::{Datagrams, put_renamed};
-use gate_base::Refusal;
+use verdicts::Refusal;
 
 /// The datagram passes: its addresses are used, and it goes on.
 pub fn pass_plain(table: &mut Table, way: &Way, timeout: u64, octets: &[u8], outbox: &mut Datagrams)

@@ -1,9 +1,10 @@
 // SNMP messages (RFC 2962).
 ghost use Rattle.std.specs.Prelude.{◌≡◌, nat_lt, true, [], ◌∷◌, length, IsSome};
-ghost use Rattle.gate_base.specs.Prelude.{IsMoment, first_that_holds, unless_refused};
+ghost use Rattle.gate_base.specs.Prelude.{IsMoment};
+ghost use Rattle.verdicts.specs.Prelude.{first_that_holds, unless_refused};
 ghost use Rattle.binding_table.specs.Prelude.{is_settled, after_uses};
 ghost use Rattle.twice_translate.specs.Renamed.{datagram_of, rebuilt};
-ghost use Rattle.gate_base.specs.declared.refusal.Refusal.TheVariants.{SnmpTooLong};
+ghost use Rattle.verdicts.specs.declared.refusal.Refusal.TheVariants.{SnmpTooLong};
 ghost use Rattle.gate_model.specs.Frame as kinds;
 ghost use Rattle.gate_model.specs.Prelude.{number_seen, uses_until, World};
 ghost use Rattle.gate_model.specs.declared.TheConstants.{MOST_CARRIED};
@@ -18,9 +19,10 @@ use crate::addresses::{Way, lacks_alias};
 use crate::udp::UdpDatagram;
 use binding_table::Table;
 use event_outbox::{Datagrams, Scratch, put_snmp, put_snmp_by_rules};
-use gate_base::{Addr, Refusal, Side};
+use gate_base::{Addr, Side};
 use gate_model::UDP_TIMEOUT;
 use snmp_gateway::{Lookup, check};
+use verdicts::Refusal;
 
 /// What addresses of a realm are called in the other.
 #[derive(Drop)]

@@ -6,8 +6,8 @@ use Rattle.std.proofs.lemmas.List.Elements.{All-nil}
 use Rattle.dialogue.specs.Prelude.{Meaning, AreImages}
 use Rattle.dialogue.specs.declared.learns.UnitImage.{UnitImage}
 use Rattle.dns_stream.specs.Prelude.{dns_units}
-use Rattle.gate_base.specs.declared.refusal.Refusal.{Refusal}
-use Rattle.gate_base.specs.declared.refusal.Refusal.TheVariants.{NoSession, BadUnit, UnitUnbound, RenamesFull, SessionsFull, PoolEmpty, UnitGrows}
+use Rattle.verdicts.specs.declared.refusal.Refusal.{Refusal}
+use Rattle.verdicts.specs.declared.refusal.Refusal.TheVariants.{NoSession, BadUnit, UnitUnbound, RenamesFull, SessionsFull, PoolEmpty, UnitGrows}
 use Rattle.gate_base.specs.declared.side.Side.{Side}
 use Rattle.binding_table.specs.Prelude.{Bindings}
 use Rattle.ipv4_frames.specs.Ipv4.{Datagram}
@@ -17,7 +17,7 @@ use Rattle.tcp_tracker.specs.declared.connection.ConnKey.{ConnKey}
 use Rattle.tcp_tracker.specs.declared.connection.Connection.{Connection}
 use Rattle.tcp_tracker.specs.declared.tracker.TheConstants.{MOST_CONNECTIONS}
 use Rattle.tcp_tracker.specs.declared.table.TheConstants.{MOST_SESSIONS}
-use Rattle.gate_base.specs.Prelude.{first_that_holds}
+use Rattle.verdicts.specs.Prelude.{first_that_holds}
 use Rattle.gate_model.specs.Prelude.{HasLists, Stream, is_tracked_port, taker_in, tcp_of, segment_of, key_in, found_in, session_in, is_opening}
 use Rattle.gate_model.specs.Prelude.{lacks_session, is_full, made_by, taker_by, session_refusal, unit_tests, growth_tests, refusal_tests}
 use Rattle.gate_model.specs.Prelude.{is_pool_empty, late_tests, table_after, image_in, Tracked, World, host_on, addresses_in, SessionRules}

@@ -4,7 +4,7 @@ use Rattle.std.specs.Option.{option_or}
 use Rattle.gate_base.specs.declared.address.Addr.{Addr}
 use Rattle.gate_base.specs.declared.event.Moment.{Moment}
 use Rattle.gate_base.specs.declared.event.Pair.{Pair}
-use Rattle.gate_base.specs.declared.refusal.Refusal.{Refusal}
+use Rattle.verdicts.specs.declared.refusal.Refusal.{Refusal}
 use Rattle.gate_base.specs.declared.side.Side.{Side}
 use Rattle.binding_table.specs.Prelude.{Bindings, cross, is_settled, after_uses}
 use Rattle.ipv4_frames.specs.Ipv4.{Datagram}
@@ -14,7 +14,7 @@ use Rattle.tcp_tracker.specs.declared.connection.TheConstants.{SHORT_TIMEOUT}
 use Rattle.tcp_tracker.specs.declared.connection.ConnKey.{ConnKey}
 use Rattle.tcp_tracker.specs.declared.connection.Connection.{Connection}
 use Rattle.twice_translate.specs.Renamed.{datagram_of, renamed}
-use Rattle.gate_base.specs.Prelude.{first_that_holds, unless_refused}
+use Rattle.verdicts.specs.Prelude.{first_that_holds, unless_refused}
 use Rattle.gate_model.specs.Prelude.{Stream, is_tracked_port, taker_in, with_connection, tcp_of, key_in, found_in, session_in, begins, is_opening}
 use Rattle.gate_model.specs.Prelude.{pair_in, made_by, session_refusal, stepped, ends_by, stream_timeout, connection_after, connections_with}
 use Rattle.gate_model.specs.Prelude.{pending_by, pending_in, table_after, uses_until, Tracked, World, called, source_of, destination_of, SessionRules}

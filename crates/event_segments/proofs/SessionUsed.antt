@@ -1,8 +1,9 @@
 -- A segment that a session takes by a plan: what it enters, and what is used.
 use Rattle.std.proofs.Common.{◌≡◌, ◌≢◌, ◌≤◌, ◌+◌, ℕ, false, List, [], ◌∷◌, ◌++◌, length, take, Option, Some, refl, sym, ap, subst, ◌∙◌, arith, All, le-ltb, length-append}
-use Rattle.gate_base.specs.Prelude.{unless_refused, other}
+use Rattle.gate_base.specs.Prelude.{other}
+use Rattle.verdicts.specs.Prelude.{unless_refused}
 use Rattle.gate_base.specs.declared.address.Addr.{Addr}
-use Rattle.gate_base.specs.declared.refusal.Refusal.{Refusal}
+use Rattle.verdicts.specs.declared.refusal.Refusal.{Refusal}
 use Rattle.gate_base.specs.declared.side.Side.{Side}
 use Rattle.gate_base.specs.declared.host.Host.{Host}
 use Rattle.gate_base.specs.declared.host.Host.TheVariants.{Client, Server}

@@ -1,8 +1,9 @@
 -- An event, by its first test that holds.
 use Rattle.std.proofs.Common.{◌≡◌, ◌++◌, Option, Some, None, refl, sym, ap, ◌∙◌}
 use Rattle.std.specs.Option.{option_or}
-use Rattle.gate_base.specs.Prelude.{Event, first_that_holds}
-use Rattle.gate_base.specs.declared.refusal.Refusal.{Refusal}
+use Rattle.gate_base.specs.Prelude.{Event}
+use Rattle.verdicts.specs.Prelude.{first_that_holds}
+use Rattle.verdicts.specs.declared.refusal.Refusal.{Refusal}
 use Rattle.gate_model.specs.Prelude.{datagram_in, header_tests, datagram_tests, transport_tests, kind_of, after_kind, next_by, tests, world_tests, verdict_of, World, SessionRules}
 use Rattle.event_segments.specs.Prelude.{left_as}
 use Rattle.event_frame.specs.Judged.{front_tests}

@@ -1,12 +1,13 @@
 -- A datagram of any kind but a segment.
 use Rattle.std.proofs.Common.{◌≡◌, ℕ, Bool, true, false, not, List, [], ◌∷◌, ◌++◌, Option, Some, None, refl, sym, ap, ◌∙◌, subst, if◌then◌else◌, ◌==◌, ◌||◌, slice_index, Result, IfOk}
 use Rattle.udp_icmp.specs.Icmp.{is_error_type}
-use Rattle.gate_base.specs.Prelude.{u16_at, first_that_holds, unless_refused}
+use Rattle.gate_base.specs.Prelude.{u16_at}
+use Rattle.verdicts.specs.Prelude.{first_that_holds, unless_refused}
 use Rattle.std.specs.Option.{option_or}
 use Rattle.gate_base.specs.declared.address.Addr.{Addr}
 use Rattle.gate_base.specs.declared.event.Moment.{Moment}
-use Rattle.gate_base.specs.declared.refusal.Refusal.{Refusal}
-use Rattle.gate_base.specs.declared.refusal.Refusal.TheVariants.{SourceInPool, NoBinding, PoolEmpty}
+use Rattle.verdicts.specs.declared.refusal.Refusal.{Refusal}
+use Rattle.verdicts.specs.declared.refusal.Refusal.TheVariants.{SourceInPool, NoBinding, PoolEmpty}
 use Rattle.gate_base.specs.declared.side.Side.{Side}
 use Rattle.binding_table.specs.Prelude.{Bindings, cross, in_pool}
 use Rattle.ipv4_frames.specs.Ipv4.{Datagram}

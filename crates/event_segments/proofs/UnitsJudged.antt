@@ -1,10 +1,11 @@
 -- A segment of a session is refused by the plan of its units, and else by nothing.
 use Rattle.std.proofs.Common.{◌≡◌, ◌≢◌, ◌≤◌, ℕ, Bool, true, false, List, [], ◌∷◌, ◌++◌, length, nat_lt, Option, Some, None, Result, Ok, Err, refl, sym, ap, subst, ◌∙◌, IfOk, IfErr, ltb-false, le-ltb}
 use Rattle.std.specs.List.{All, AllByRecursion, list_any}
-use Rattle.gate_base.specs.Prelude.{other, first_that_holds, unless_refused}
+use Rattle.gate_base.specs.Prelude.{other}
+use Rattle.verdicts.specs.Prelude.{first_that_holds, unless_refused}
 use Rattle.gate_base.specs.declared.address.Addr.{Addr}
-use Rattle.gate_base.specs.declared.refusal.Refusal.{Refusal}
-use Rattle.gate_base.specs.declared.refusal.Refusal.TheVariants.{NoSession, BadUnit, UnitUnbound, RenamesFull, SessionsFull, PoolEmpty, UnitGrows}
+use Rattle.verdicts.specs.declared.refusal.Refusal.{Refusal}
+use Rattle.verdicts.specs.declared.refusal.Refusal.TheVariants.{NoSession, BadUnit, UnitUnbound, RenamesFull, SessionsFull, PoolEmpty, UnitGrows}
 use Rattle.gate_base.specs.declared.side.Side.{Side}
 use Rattle.gate_base.specs.declared.host.Host.{Host}
 use Rattle.binding_table.specs.Prelude.{cross, free, needed, image_after}

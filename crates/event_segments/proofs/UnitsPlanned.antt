@@ -1,10 +1,11 @@
 -- The refusal of a segment of a session is that of the plan of its units.
 use Rattle.std.proofs.Common.{◌≡◌, ◌≤◌, ℕ, Bool, true, false, List, [], ◌∷◌, length, nat_lt, Option, None, refl, sym, ap, ◌∙◌, map, ltb-false}
 use Rattle.std.specs.List.{AllByRecursion, list_any}
-use Rattle.gate_base.specs.Prelude.{other, first_that_holds}
+use Rattle.gate_base.specs.Prelude.{other}
+use Rattle.verdicts.specs.Prelude.{first_that_holds}
 use Rattle.gate_base.specs.declared.address.Addr.{Addr}
-use Rattle.gate_base.specs.declared.refusal.Refusal.{Refusal}
-use Rattle.gate_base.specs.declared.refusal.Refusal.TheVariants.{BadUnit, UnitUnbound, RenamesFull, PoolEmpty, UnitGrows}
+use Rattle.verdicts.specs.declared.refusal.Refusal.{Refusal}
+use Rattle.verdicts.specs.declared.refusal.Refusal.TheVariants.{BadUnit, UnitUnbound, RenamesFull, PoolEmpty, UnitGrows}
 use Rattle.binding_table.specs.Prelude.{Bindings, free, needed}
 use Rattle.dialogue.specs.Prelude.{Entry}
 use Rattle.gate_model.specs.Prelude.{addresses_in, enter, entered, is_bad, grows_too_much, is_new_unbound}

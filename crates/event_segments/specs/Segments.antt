@@ -1,10 +1,10 @@
 -- What becomes of a segment.
 use Rattle.std.specs.Prelude.{◌≤◌, ◌≡◌, ◌&&◌, ◌++◌, not, nat_le, ℕ, Bool, List, [], ◌∷◌, length, Option, Some, None, is_none, if◌then◌else◌}
 use Rattle.gate_base.specs.declared.address.Addr.{Addr}
-use Rattle.gate_base.specs.Prelude.{first_that_holds}
+use Rattle.verdicts.specs.Prelude.{first_that_holds}
 use Rattle.gate_base.specs.declared.event.Pair.{Pair}
-use Rattle.gate_base.specs.declared.refusal.Refusal.{Refusal}
-use Rattle.gate_base.specs.declared.refusal.Refusal.TheVariants.{PoolEmpty, SessionsFull}
+use Rattle.verdicts.specs.declared.refusal.Refusal.{Refusal}
+use Rattle.verdicts.specs.declared.refusal.Refusal.TheVariants.{PoolEmpty, SessionsFull}
 use Rattle.gate_base.specs.declared.side.Side.{Side}
 use Rattle.gate_base.specs.declared.protocol.TheConstants.{LONGEST_DATAGRAM}
 use Rattle.ipv4_frames.specs.Ipv4.{Datagram}

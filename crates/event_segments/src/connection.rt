@@ -19,8 +19,9 @@ use dns_plans::{Endpoints, PlanStop, Sender, Session, Tracked, UnitPlan, plan_un
 use dns_stream::unit_end;
 use event_outbox::Segment;
 use event_payloads::Way;
-use gate_base::{Host, Refusal};
+use gate_base::Host;
 use tcp_tracker::{ConnKey, SessionTable};
+use verdicts::Refusal;
 
 /// Why a session refuses a segment, if it does.
 fn session_refusal<S: Session>(

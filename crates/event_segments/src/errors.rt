@@ -12,10 +12,11 @@ use binding_table::Table;
 use dns_plans::{Session, Tracked};
 use event_outbox::{Datagrams, put_error};
 use event_payloads::{Way, key_of, lacks_alias};
-use gate_base::{Addr, Refusal, Side, TCP};
+use gate_base::{Addr, Side, TCP};
 use gate_model::ICMP_TIMEOUT;
 use icmp_errors::{Inner, inner_of};
 use tcp_tracker::SessionTable;
+use verdicts::Refusal;
 
 /// The number that the sender of the datagram inside gave it, where a session tells; None inside that where the session sent
 /// no such number.

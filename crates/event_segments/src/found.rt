@@ -1,13 +1,13 @@
 // What is found of a segment's connection (RFC 2694, RFC 7766).
 ghost use Rattle.std.specs.Prelude.{◌≡◌, true, false, [], IfOk, IfErr};
 ghost use Rattle.event_payloads.specs.Prelude.{is_empty};
-ghost use Rattle.gate_base.specs.declared.refusal.Refusal.TheVariants as refusals;
+ghost use Rattle.verdicts.specs.declared.refusal.Refusal.TheVariants as refusals;
 ghost use Rattle.dns_plans.specs.declared.stop.PlanStop.TheVariants as stops;
 
 use dns_plans::{PlanStop, UnitPlan};
 use event_payloads::{Way, lacks_alias};
-use gate_base::Refusal;
 use std::alloc::Global;
+use verdicts::Refusal;
 
 /// What the units do that a segment completes, and how many entries the lists of its session have before it: the client's, and the
 /// server's.

@@ -12,9 +12,10 @@ use crate::workspace::Workspace;
 use binding_table::Table;
 use event_outbox::Datagrams;
 use event_payloads::{UdpDatagram, Way, take_dns, take_plain, take_snmp};
-use gate_base::{DNS_PORT, OutOfMemory, Refusal, SNMP_PORT, TRAP_PORT};
+use gate_base::{DNS_PORT, OutOfMemory, SNMP_PORT, TRAP_PORT};
 use gate_model::UDP_TIMEOUT;
 use udp_icmp::UdpView;
+use verdicts::Refusal;
 
 /// Takes a UDP datagram, by its ports. There is too little memory only at one of DNS, and then nothing has changed.
 #[inline(always)]

@@ -1,6 +1,7 @@
 // Segments that no session takes, and the room for connections.
 ghost use Rattle.std.specs.Prelude.{◌≡◌, ◌≤◌, ◌||◌, ◌&&◌, nat_le, [], ◌∷◌, length, true, false, None, is_none, count_by};
-ghost use Rattle.gate_base.specs.Prelude.{IsMoment, IsTimeout, first_that_holds, unless_refused};
+ghost use Rattle.gate_base.specs.Prelude.{IsMoment, IsTimeout};
+ghost use Rattle.verdicts.specs.Prelude.{first_that_holds, unless_refused};
 ghost use Rattle.gate_base.specs.declared.protocol.TheConstants.{LONGEST_DATAGRAM};
 ghost use Rattle.binding_table.specs.Prelude.{is_settled, after_uses};
 ghost use Rattle.twice_translate.specs.Renamed.{CanGoOn, datagram_of, renamed};
@@ -13,9 +14,9 @@ ghost use Rattle.event_segments.specs.Segments.{room_tests, lacks_place};
 use binding_table::Table;
 use event_outbox::{Datagrams, Segment};
 use event_payloads::{Way, lacks_alias, pass_plain};
-use gate_base::Refusal;
 use tcp_segments::flags_of;
 use tcp_tracker::{ConnKey, MOST_CONNECTIONS, MOST_SESSIONS, SHORT_TIMEOUT, SessionTable};
+use verdicts::Refusal;
 
 /// Takes a segment that no session takes.
 #[inline(always)]

@@ -1,8 +1,9 @@
 -- The tests of a frame before those of its kind.
 use Rattle.std.proofs.Common.{◌≡◌, Option, None, sym, ap, ◌∙◌}
 use Rattle.std.specs.Option.{option_or}
-use Rattle.gate_base.specs.Prelude.{Event, first_that_holds}
-use Rattle.gate_base.specs.declared.refusal.Refusal.{Refusal}
+use Rattle.gate_base.specs.Prelude.{Event}
+use Rattle.verdicts.specs.Prelude.{first_that_holds}
+use Rattle.verdicts.specs.declared.refusal.Refusal.{Refusal}
 use Rattle.event_frame.specs.Judged.{front_tests}
 use Rattle.event_frame.proofs.Tests.{first-append}
 use Rattle.gate_model.specs.Prelude.{datagram_in, address_tests, World}

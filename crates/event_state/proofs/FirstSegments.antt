@@ -2,7 +2,7 @@
 use Rattle.std.proofs.Common.{◌≡◌, ℕ, true, false, ◌&&◌, Option, Some, None, refl, sym, ap, ◌∙◌, Bool, cond}
 use Rattle.std.proofs.lemmas.Bool.{and_parts}
 use Rattle.gate_base.specs.declared.event.Pair.{Pair}
-use Rattle.gate_base.specs.declared.refusal.Refusal.{Refusal}
+use Rattle.verdicts.specs.declared.refusal.Refusal.{Refusal}
 use Rattle.gate_base.specs.declared.side.Side.{Side}
 use Rattle.gate_base.proofs.Sides.{same_side-itself}
 use Rattle.gate_base.specs.declared.host.Host.TheVariants.{Client, Server}

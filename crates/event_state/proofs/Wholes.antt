@@ -1,11 +1,11 @@
 -- Datagrams that go out whole, and where memory runs out for them.
 use Rattle.std.proofs.Common.{◌≡◌, ℕ, false, List, [], Option, Some, None, refl, sym, ap, ◌∙◌, subst, inl, ◌==◌, Result, Ok, Err, IfOk, OnErr}
 use Rattle.gate_base.specs.declared.event.OutOfMemory.{OutOfMemory}
-use Rattle.gate_base.specs.declared.refusal.Refusal.{Refusal}
+use Rattle.verdicts.specs.declared.refusal.Refusal.{Refusal}
 use Rattle.gate_base.specs.declared.side.Side.{Side}
 use Rattle.binding_table.specs.Prelude.{Bindings}
 use Rattle.ipv4_frames.specs.Ipv4.{Datagram}
-use Rattle.gate_base.specs.Prelude.{first_that_holds}
+use Rattle.verdicts.specs.Prelude.{first_that_holds}
 use Rattle.gate_model.specs.Prelude.{Whole, Payload, Kind, Dns, Stream, udp_payload, icmp_payload, kind_of, SessionRules, address_tests, world_tests, World}
 use Rattle.event_payloads.specs.Prelude.{IsTaken}
 use Rattle.event_payloads.specs.declared.addresses.Way.{Way}

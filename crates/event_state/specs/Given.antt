@@ -1,6 +1,6 @@
 -- What becomes of a datagram, and what is told of it.
 use Rattle.std.specs.Prelude.{ℕ, List, Option, Some, None}
-use Rattle.gate_base.specs.declared.refusal.Refusal.{Refusal}
+use Rattle.verdicts.specs.declared.refusal.Refusal.{Refusal}
 use Rattle.gate_base.specs.declared.side.Side.{Side}
 use Rattle.ipv4_frames.specs.Ipv4.{Datagram}
 use Rattle.gate_model.specs.Prelude.{Kind, SessionRules, World}

@@ -1,8 +1,9 @@
 -- What becomes of a datagram, or where memory runs out for it, and on which frames it may.
 use Rattle.std.specs.Prelude.{◌≡◌, ◌⊎◌, ◌++◌, ℕ, Bool, true, List, [], Option, Some, None, Result, Ok, Err}
-use Rattle.gate_base.specs.Prelude.{Event, first_that_holds}
+use Rattle.gate_base.specs.Prelude.{Event}
+use Rattle.verdicts.specs.Prelude.{first_that_holds}
 use Rattle.gate_base.specs.declared.event.OutOfMemory.{OutOfMemory}
-use Rattle.gate_base.specs.declared.refusal.Refusal.{Refusal}
+use Rattle.verdicts.specs.declared.refusal.Refusal.{Refusal}
 use Rattle.gate_base.specs.declared.side.Side.{Side}
 use Rattle.gate_base.specs.declared.host.Host.{Host}
 use Rattle.ipv4_frames.specs.Ipv4.{Datagram}

@@ -13,9 +13,10 @@ use dns_plans::{Completed, Session, Tracked};
 use event_outbox::{Datagrams, Segment};
 use event_payloads::Way;
 use event_segments::Workspace;
-use gate_base::{OutOfMemory, Pair, Refusal};
+use gate_base::{OutOfMemory, Pair};
 use std::alloc::Global;
 use tcp_segments::TcpView;
+use verdicts::Refusal;
 
 /// The sessions of an engine: the gate's, which put datagrams, or the auditor's, which tell what is sent before it is cut.
 pub trait Engine: Session + Drop {

@@ -1,6 +1,7 @@
 // What is known from event to event, and what a frame changes of it.
 ghost use Rattle.std.specs.Prelude.{◌≡◌, ◌≤◌, false, ◌==◌, [], length, IfOk};
-ghost use Rattle.gate_base.specs.Prelude.{IsMoment, event_of, first_that_holds};
+ghost use Rattle.gate_base.specs.Prelude.{IsMoment, event_of};
+ghost use Rattle.verdicts.specs.Prelude.{first_that_holds};
 ghost use Rattle.gate_base.specs.declared.protocol.TheConstants.{LONGEST_DATAGRAM, TCP, UDP};
 ghost use Rattle.twice_translate.specs.Renamed.{CanGoOn, datagram_of};
 ghost use Rattle.gate_model.specs.Frame as kinds;
@@ -22,12 +23,13 @@ use event_outbox::{Datagrams, Segment};
 use event_payloads::{UdpDatagram, Way, address_refusal, take_plain};
 use event_segments::{Workspace, take_error, take_udp};
 use expiring_table::Seed;
-use gate_base::{Event, Moment, OutOfMemory, Refusal, Side};
+use gate_base::{Event, Moment, OutOfMemory, Side};
 use gate_model::ICMP_TIMEOUT;
 use gate_settings::Settings;
 use std::alloc::Global;
 use tcp_tracker::SessionTable;
 use udp_icmp::IcmpView;
+use verdicts::Refusal;
 
 /// What is known: the clock, the bindings, the connections with their sessions, and the greatest number of changed lines or units
 /// that ever waited. With it are the rooms to work with.

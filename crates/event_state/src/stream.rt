@@ -25,11 +25,12 @@ use event_segments::{
     SegmentFate, SegmentPlan, Workspace, is_first, is_full, is_late, key_in, look_up,
     take_untracked, timeout_of, use_segment,
 };
-use gate_base::{OutOfMemory, Pair, Refusal};
+use gate_base::{OutOfMemory, Pair};
 use std::alloc::Global;
 use std::mem;
 use tcp_segments::TcpView;
 use tcp_tracker::{ConnKey, SHORT_TIMEOUT, SessionTable};
+use verdicts::Refusal;
 
 impl<S: Engine> State<S> {
     /// Takes a segment.

@@ -2,7 +2,8 @@
 ghost use Rattle.std.specs.Prelude.{◌≡◌};
 ghost use Rattle.event_state.specs.Inside.Given.{taken_whole, result_whole};
 
-use gate_base::{OutOfMemory, Refusal};
+use gate_base::OutOfMemory;
+use verdicts::Refusal;
 
 /// What becomes of a datagram.
 #[derive(Drop)]

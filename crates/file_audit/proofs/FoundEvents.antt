@@ -4,7 +4,7 @@ use Rattle.std.proofs.lemmas.List.{length-map, take_at}
 use Rattle.audit_records.specs.Kept.{Expecting}
 use Rattle.frag_join.specs.Prelude.{Arrival}
 use Rattle.gate_base.specs.Prelude.{other}
-use Rattle.gate_base.specs.declared.event.Verdict.{Verdict}
+use Rattle.verdicts.specs.declared.verdict.Verdict.{Verdict}
 use Rattle.gate_base.specs.declared.side.Side.{Side}
 use Rattle.gate_base.specs.declared.side.Side.TheVariants.{Left, Right}
 use Rattle.gate_desk.specs.Outside.{Outside, Trace, told_at, took}

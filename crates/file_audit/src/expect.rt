@@ -7,7 +7,8 @@ ghost use Rattle.file_audit.specs.Inside.Events.{Expected};
 use crate::line::LineHead;
 use frag_join::{Joiner, Taken, ask, joined};
 use gate_audit::Auditor;
-use gate_base::{Event, OutOfMemory, Verdict};
+use gate_base::{Event, OutOfMemory};
+use verdicts::Verdict;
 
 // The auditor expects what is wanted of an event.
 fn expect_event(

@@ -8,12 +8,13 @@ ghost use Rattle.file_audit.specs.Inside.Lines.{agreed, agreement, number_after,
 ghost use Rattle.file_audit.specs.Inside.Stops.{LeavesFaults};
 
 use crate::ahead::Ahead;
-use gate_base::{Moment, OutOfMemory, Side, Verdict};
+use gate_base::{Moment, OutOfMemory, Side};
 use gate_desk::Desk;
 use gate_report::{Line, LineRoom};
 use gate_settings::ReportForm;
 use run_setup::Status;
 use std::alloc::Global;
+use verdicts::Verdict;
 
 /// What the line of a frame tells but for how many were sent for it.
 #[derive(Clone, Copy)]

@@ -8,8 +8,6 @@ mod lines;
 #[cfg(test)]
 mod merging;
 #[cfg(test)]
-mod records;
-#[cfg(test)]
 mod settings;
 #[cfg(test)]
 mod workloads;

@@ -1,7 +1,8 @@
-use gate_base::{Moment, Refusal, SECOND, Side, Verdict};
+use gate_base::{Moment, SECOND, Side};
 use gate_report::{Line, LineRoom, Totals};
 use gate_settings::ReportForm;
 use std::test::Fail;
+use verdicts::{Refusal, Verdict};
 
 const PASSED: Line = Line::Event {
     number: 1,

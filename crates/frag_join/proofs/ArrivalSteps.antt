@@ -1,9 +1,10 @@
 -- Frames on their way to the gate, one after another.
 use Rattle.std.proofs.Common.{◌≡◌, ℕ, Bool, true, false, cond, List, [], ◌∷◌, ◌++◌, map, Option, Some, None, refl, sym, ap, ◌∙◌, fold}
 use Rattle.std.proofs.lemmas.List.Sums.{fold-append}
-use Rattle.gate_base.specs.Prelude.{Event, first_that_holds}
-use Rattle.gate_base.specs.declared.event.Verdict.TheVariants as verdicts
-use Rattle.gate_base.specs.declared.refusal.Refusal.{Refusal}
+use Rattle.gate_base.specs.Prelude.{Event}
+use Rattle.verdicts.specs.Prelude.{first_that_holds}
+use Rattle.verdicts.specs.declared.verdict.Verdict.TheVariants as verdicts
+use Rattle.verdicts.specs.declared.refusal.Refusal.{Refusal}
 use Rattle.gate_base.specs.declared.side.Side.{Side}
 use Rattle.frag_join.specs.declared.part.Part.{Part}
 use Rattle.frag_join.specs.declared.taken.Taken.TheVariants.{Plain, Held, Joined}

@@ -1,7 +1,7 @@
 -- Datagrams that were cut into fragments (RFC 791, 2.3).
 use Rattle.std.specs.Prelude.{◌≡◌, ◌≢◌, ℕ, ◌+◌, ◌%◌, ◌<◌, ◌≤◌, Bool, true, false, ◌&&◌, nat_lt, List, [], ◌∷◌, ◌++◌, length, slice_range, Some, None, is_some, map, filter, All}
 use Rattle.gate_base.specs.Prelude.{Event}
-use Rattle.gate_base.specs.declared.refusal.Refusal.TheVariants.{FragmentsFull}
+use Rattle.verdicts.specs.declared.refusal.Refusal.TheVariants.{FragmentsFull}
 use Rattle.ipv4_frames.specs.Ipv4.{has_options}
 use Rattle.frag_join.specs.declared.part.Name.{Name}
 use Rattle.frag_join.specs.declared.taken.Taken.TheVariants.{Joined, Refused}

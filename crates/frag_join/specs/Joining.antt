@@ -2,11 +2,12 @@
 use Rattle.std.specs.Prelude.{ℕ, ◌+◌, Bool, true, not, ◌&&◌, nat_lt, nat_le, if◌then◌else◌, List, [], ◌∷◌, ◌++◌, length, filter}
 use Rattle.std.specs.Prelude.{map, fold, position, slice_get, slice_set, Option, Some, None, is_some, option_and_then}
 use Rattle.std.specs.List.{remove}
-use Rattle.gate_base.specs.Prelude.{Event, first_that_holds}
+use Rattle.gate_base.specs.Prelude.{Event}
+use Rattle.verdicts.specs.Prelude.{first_that_holds}
 use Rattle.gate_base.specs.declared.side.Side.{Side}
 use Rattle.gate_base.specs.declared.side.Link.TheVariants.{Raw}
-use Rattle.gate_base.specs.declared.refusal.Refusal.{Refusal}
-use Rattle.gate_base.specs.declared.refusal.Refusal.TheVariants.{IpOptions, BadFragment, FragmentsFull}
+use Rattle.verdicts.specs.declared.refusal.Refusal.{Refusal}
+use Rattle.verdicts.specs.declared.refusal.Refusal.TheVariants.{IpOptions, BadFragment, FragmentsFull}
 use Rattle.ipv4_frames.specs.Ipv4.{has_options}
 use Rattle.frag_join.specs.declared.joiner.TheConstants.{MOST_JOINED}
 use Rattle.frag_join.specs.declared.part.TheConstants.{JOIN_TIMEOUT}

@@ -14,9 +14,10 @@ use crate::fragment::{FragmentView, fragment_octets, has_options, name_of};
 use crate::part::{Name, Part};
 use crate::taken::Taken;
 use crate::whole::Whole;
-use gate_base::{Event, Moment, OutOfMemory, Refusal};
+use gate_base::{Event, Moment, OutOfMemory};
 use std::alloc::Global;
 use std::marker::Model;
+use verdicts::Refusal;
 
 /// The most datagrams that are joined at once.
 pub const MOST_JOINED: usize = 64;

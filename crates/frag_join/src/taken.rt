@@ -1,4 +1,4 @@
-use gate_base::Refusal;
+use verdicts::Refusal;
 
 /// What became of a frame.
 #[derive(Clone, Copy, Debug, PartialEq, Eq)]

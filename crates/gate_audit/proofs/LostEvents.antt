@@ -1,6 +1,7 @@
 -- An event for which memory runs out.
 use Rattle.std.proofs.Common.{ℕ, List}
-use Rattle.gate_base.specs.Prelude.{Event, first_that_holds}
+use Rattle.gate_base.specs.Prelude.{Event}
+use Rattle.verdicts.specs.Prelude.{first_that_holds}
 use Rattle.gate_model.specs.Prelude.{World, at_moment, datagram_in, kind_of, whole_rules, world_as}
 use Rattle.audit_sessions.specs.Gives.{heard_gives}
 use Rattle.audit_sessions.specs.Heard.{HeardSession, heard_rules, session_in}

@@ -1,7 +1,7 @@
 -- How many datagrams go out whole.
 use Rattle.std.proofs.Common.{◌≡◌, ℕ, List, Option, Some, None, ap, length, []}
 use Rattle.gate_base.specs.declared.address.Addr.{Addr}
-use Rattle.gate_base.specs.declared.refusal.Refusal.{Refusal}
+use Rattle.verdicts.specs.declared.refusal.Refusal.{Refusal}
 use Rattle.gate_base.specs.declared.side.Side.{Side}
 use Rattle.ipv4_frames.specs.Ipv4.{Datagram}
 use Rattle.gate_model.specs.Prelude.{Whole, Kind, Stream, taker_in, table_after, image_in, World, Tracked, called, source_of, destination_of}

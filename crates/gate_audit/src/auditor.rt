@@ -15,11 +15,12 @@ use audit_sessions::AuditedSession;
 use event_outbox::Datagrams;
 use event_state::{State, Taken};
 use expiring_table::Seed;
-use gate_base::{Event, Moment, OutOfMemory, Side, Verdict};
+use gate_base::{Event, Moment, OutOfMemory, Side};
 use gate_settings::Settings;
 use pcap_files::Packet;
 use std::alloc::Global;
 use std::marker::Model;
+use verdicts::Verdict;
 
 /// The settings, what is known, and what is wanted of the last frame.
 pub struct Auditor {
@@ -68,6 +69,7 @@ impl Auditor {
         requires forms { HasForms settings }
         ensures { IfOk result (IsOpening settings) }
     {
+        // For the proof alone.
         have_mac_addresses(&settings);
         Ok(Auditor {
             state: State::new(alloc, &settings, Seed::from_number(seed))?,
@@ -98,6 +100,7 @@ impl Auditor {
             (at_moment (whole_world self.old) event.now.moment.0)
             (event_of event.now)) }
     {
+        // For the proof alone.
         are_octets(event.octets);
         self.lost = true;
         self.state.expire(event.moment);
@@ -174,6 +177,7 @@ impl Auditor {
 fn has_six_octets(address: &[u8; 6])
     ensures { length address.now ≡ 6 }
 {
+    // The proof knows the length of an array by a look at it.
     let _ = address.len();
 }
 

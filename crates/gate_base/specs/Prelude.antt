@@ -3,8 +3,6 @@ pub use Rattle.gate_base.specs.Address.{cut_at, digit_of, is_unicast_number, num
 pub use Rattle.gate_base.specs.Fields.{u16_at, u32_at, with_u16, with_u32}
 pub use Rattle.gate_base.specs.Side.{name_of, other, same_side}
 pub use Rattle.gate_base.specs.Hosts.{peer}
-pub use Rattle.gate_base.specs.Refusal.{verdict_name}
-pub use Rattle.gate_base.specs.Tests.{first_that_holds, unless_refused}
 pub use Rattle.gate_base.specs.Events.{Event, event_of}
 pub use Rattle.gate_base.specs.Rules.{AreRules, is_prefix, is_rule}
 pub use Rattle.gate_base.specs.Moments.{IsMoment, IsTimeout}

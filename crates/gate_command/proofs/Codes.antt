@@ -2,7 +2,7 @@
 use Rattle.std.proofs.Common.{◌≡◌, ℕ, ◌∙◌, inl, inr, Option, Some, None, Err, IfSome, IsErrOf}
 use Rattle.gate_desk.specs.declared.slot.Slot.{Slot}
 use Rattle.gate_desk.specs.Outside.{Outside}
-use Rattle.gate_desk.specs.Untold.{Files}
+use Rattle.file_desk.specs.Untold.{Files}
 use Rattle.run_setup.specs.declared.status.Status.TheVariants.{WriteFault}
 use Rattle.run_setup.specs.Prelude.{Command}
 use Rattle.gate_command.specs.Exit.{IsExit, IsCode, Finishes}

@@ -3,7 +3,7 @@ use Rattle.std.specs.Prelude.{◌≡◌, ◌<◌, ◌⊎◌, ℕ, None, IfSome, 
 use Rattle.gate_desk.specs.declared.slot.Slot.{Slot}
 use Rattle.gate_desk.specs.Slots.{at}
 use Rattle.gate_desk.specs.Outside.{Outside, HasFailed}
-use Rattle.gate_desk.specs.Untold.{Files, told_by, HandsOutAll, all_dropped}
+use Rattle.file_desk.specs.Untold.{Files, told_by, HandsOutAll, all_dropped}
 use Rattle.run_setup.specs.declared.status.Status.{Status}
 use Rattle.run_setup.specs.declared.status.Status.TheVariants.{WriteFault}
 use Rattle.run_setup.specs.Prelude.{Command, code_of, TellsLine}

@@ -5,7 +5,8 @@ ghost use Rattle.std.specs.Prelude.{map};
 ghost use Rattle.gate_command.specs.Exit.{IsExit, IsCode, Finishes, IsFinished};
 
 use crate::call::realm_gate;
-use gate_desk::{Desk, FileDesk};
+use file_desk::FileDesk;
+use gate_desk::Desk;
 use run_setup::{Status, write_error_line};
 use std::alloc::{AllocError, Global};
 use std::env;

@@ -1,7 +1,8 @@
 -- Frames for which memory runs out.
 use Rattle.std.proofs.Common.{◌≡◌, ℕ, List, [], Option, Some, None, refl, sym, ap, subst, ◌≤◌, length, inl, inr}
-use Rattle.gate_base.specs.Prelude.{Event, first_that_holds, unless_refused}
-use Rattle.gate_base.specs.declared.refusal.Refusal.{Refusal}
+use Rattle.gate_base.specs.Prelude.{Event}
+use Rattle.verdicts.specs.Prelude.{first_that_holds, unless_refused}
+use Rattle.verdicts.specs.declared.refusal.Refusal.{Refusal}
 use Rattle.gate_base.specs.declared.side.Side.{Side}
 use Rattle.gate_base.specs.declared.host.Host.TheVariants.{Client, Server}
 use Rattle.ipv4_frames.specs.Ipv4.{Datagram}

@@ -11,11 +11,12 @@ use crate::salt::salt_of;
 use event_outbox::Datagrams;
 use event_state::{State, Taken};
 use expiring_table::Seed;
-use gate_base::{Event, Moment, OutOfMemory, Verdict};
+use gate_base::{Event, Moment, OutOfMemory};
 use gate_sessions::AnySession;
 use gate_settings::Settings;
 use std::alloc::Global;
 use std::marker::Model;
+use verdicts::Verdict;
 
 /// The settings, and what is known.
 pub struct Gate {

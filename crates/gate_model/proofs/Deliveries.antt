@@ -4,8 +4,8 @@ use Rattle.std.proofs.lemmas.Bool.{and_parts, or_cases, or_right, not-false, tru
 use Rattle.std.proofs.lemmas.List.Elements.{All-filter}
 use Rattle.gate_base.specs.Prelude.{Event, is_unicast_number, other, same_side}
 use Rattle.gate_base.specs.declared.address.Addr.{Addr}
-use Rattle.gate_base.specs.declared.event.Verdict.TheVariants.{Pass}
-use Rattle.gate_base.specs.declared.refusal.Refusal.TheVariants.{SourceInPool, NoBinding}
+use Rattle.verdicts.specs.declared.verdict.Verdict.TheVariants.{Pass}
+use Rattle.verdicts.specs.declared.refusal.Refusal.TheVariants.{SourceInPool, NoBinding}
 use Rattle.gate_base.specs.declared.side.Side.{Side}
 use Rattle.gate_base.proofs.Lists.{find_passes}
 use Rattle.gate_base.proofs.Sides.{same_side-true}

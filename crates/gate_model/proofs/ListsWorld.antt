@@ -1,14 +1,15 @@
 -- Over all events: what the lists of sessions rename stays bound while their connections live.
 use Rattle.std.proofs.Common.{◌≡◌, ◌≢◌, ◌≤◌, ◌<◌, ℕ, ◌+◌, Bool, true, false, not, nat_lt, if◌then◌else◌, cond, List, [], ◌∷◌, ◌++◌, length, All, Option, Some, None, option_map, refl, sym, ◌∙◌, ap, subst, arith, IfSome, append-nil}
-use Rattle.gate_base.specs.Prelude.{unless_refused, Event, other, same_side, peer}
+use Rattle.gate_base.specs.Prelude.{Event, other, same_side, peer}
+use Rattle.verdicts.specs.Prelude.{unless_refused}
 use Rattle.std.specs.List.{fold, list_any, AllByRecursion}
 use Rattle.std.proofs.lemmas.Bool.{and_parts, not-false, ltb-false, ltb-true, and_left}
 use Rattle.std.proofs.lemmas.List.Elements.{All-weaker, All-nil, All-head, All-tail, All-cons}
 use Rattle.gate_base.specs.declared.address.Addr.{Addr}
-use Rattle.gate_base.specs.declared.event.Verdict.{Verdict}
-use Rattle.gate_base.specs.declared.event.Verdict.TheVariants.{Pass, Refused, Held}
-use Rattle.gate_base.specs.declared.refusal.Refusal.{Refusal}
-use Rattle.gate_base.specs.declared.refusal.Refusal.TheVariants.{SourceInPool, NoBinding}
+use Rattle.verdicts.specs.declared.verdict.Verdict.{Verdict}
+use Rattle.verdicts.specs.declared.verdict.Verdict.TheVariants.{Pass, Refused, Held}
+use Rattle.verdicts.specs.declared.refusal.Refusal.{Refusal}
+use Rattle.verdicts.specs.declared.refusal.Refusal.TheVariants.{SourceInPool, NoBinding}
 use Rattle.gate_base.specs.declared.side.Side.{Side}
 use Rattle.gate_base.specs.declared.side.Side.TheVariants.{Left, Right}
 use Rattle.gate_settings.specs.Prelude.{HasForms, IsSound}
@@ -31,7 +32,7 @@ use Rattle.gate_model.specs.Prelude.{made_by, taker_by, session_refusal, stepped
 use Rattle.gate_model.specs.Prelude.{entries_after, uses_of_lists, is_new_unbound, unit_tests, uses_of, table_after, image_in, is_reachable, verdict}
 use Rattle.gate_model.specs.Prelude.{taker_in, after_kind, next_by, next, EachTracked}
 use Rattle.gate_model.specs.Held.{side_of, ListsAreBound, KeepsLists, ListsAreFew}
-use Rattle.gate_base.specs.declared.refusal.Refusal.TheVariants.{BadUnit, UnitUnbound, RenamesFull}
+use Rattle.verdicts.specs.declared.refusal.Refusal.TheVariants.{BadUnit, UnitUnbound, RenamesFull}
 use Rattle.gate_base.proofs.Hosts.{both}
 use Rattle.gate_base.specs.declared.host.Host.{Host}
 use Rattle.gate_base.specs.declared.host.Host.TheVariants.{Client, Server}

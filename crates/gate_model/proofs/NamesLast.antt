@@ -1,15 +1,15 @@
 -- What a DNS message over UDP names crosses once it has passed, for as long as its names are kept.
-use Rattle.std.proofs.Common.{◌≡◌, ◌≢◌, ◌≤◌, ◌<◌, ◌⊎◌, ◌+◌, ℕ, Bool, true, false, not, if◌then◌else◌, Some, None, is_none, List, [], ◌∷◌, ◌++◌}
+use Rattle.std.proofs.Common.{◌≡◌, ◌≢◌, ◌≤◌, ◌<◌, ◌⊎◌, ◌+◌, ℕ, Bool, true, false, not, if◌then◌else◌, Some, None, is_none, List, [], ◌∷◌, ◌++◌, map, Option}
 use Rattle.std.proofs.Common.{length, get_or, All, Contains, IsSome, refl, sym, ◌∙◌, ap, subst, append_assoc, arith, inl, inr, length-append}
 use Rattle.std.specs.List.{AllByRecursion}
 use Rattle.std.proofs.lemmas.Bool.{not-false, ltb-false}
 use Rattle.std.proofs.lemmas.List.{map-append}
-use Rattle.std.proofs.lemmas.List.Elements.{All-cons, All-push, All-get_or, All-contains, All-from_recursion, Contains-get_or}
+use Rattle.std.proofs.lemmas.List.Elements.{All-head, All-tail, All-cons, All-push, All-get_or, All-contains, All-from_recursion, Contains-get_or}
 use Rattle.std.proofs.lemmas.List.Sums.{fold-append}
 use Rattle.gate_base.specs.Prelude.{Event, other}
 use Rattle.gate_base.specs.declared.address.Addr.{Addr}
-use Rattle.gate_base.specs.declared.event.Verdict.TheVariants.{Pass}
-use Rattle.gate_base.specs.declared.refusal.Refusal.TheVariants.{SourceInPool, NoBinding, BadDns, DnsUnbound}
+use Rattle.verdicts.specs.declared.verdict.Verdict.TheVariants.{Pass}
+use Rattle.verdicts.specs.declared.refusal.Refusal.TheVariants.{SourceInPool, NoBinding, BadDns, DnsUnbound}
 use Rattle.gate_base.specs.declared.side.Side.{Side}
 use Rattle.binding_table.specs.declared.binding.Crossing.{Crossing}
 use Rattle.binding_table.specs.declared.binding.Crossing.TheVariants.{Unbound}
@@ -19,12 +19,16 @@ use Rattle.binding_table.specs.Bindings.{cross}
 use Rattle.binding_table.proofs.Kept.{lawful_expired}
 use Rattle.binding_table.proofs.Used.{all_seen}
 use Rattle.ipv4_frames.specs.Ipv4.{Datagram}
-use Rattle.gate_model.specs.Called.{table_by, called_by, IsKeptUntil, header_until}
+use Rattle.gate_model.specs.Called.{table_by, sent_from, sent_to, called_by, IsKeptUntil, header_until}
 use Rattle.gate_model.specs.Prelude.{Whole, SessionRules, Kind, Dns, World, at_moment, called, source_of, destination_of, addresses_of}
 use Rattle.gate_model.specs.Prelude.{datagram_in, kind_of, message_in, named_in, has_unbound, uses_until, is_reachable, table_after}
 use Rattle.gate_model.specs.declared.timeouts.TheConstants.{NAMED_TIMEOUT}
-use Rattle.gate_model.specs.Transparent.{NamesAreCalled}
+use Rattle.gate_model.specs.Transparent.{NamesAreCalled, GoesOutCalled}
+use Rattle.gate_model.specs.Frame.{Udp, Echo, Error, Snmp, Stream}
+use Rattle.gate_model.specs.Names.{carried, names_after, reply_by}
+use Rattle.gate_model.specs.Step.{out_by, out_kind}
 use Rattle.gate_model.specs.Verdict.{timeout_by, verdict}
+use Rattle.twice_translate.specs.Renamed.{renamed, with_payload}
 use Rattle.gate_model.proofs.AliasesLast.{StandFor, cross_back, stands_as, lawful_by, HostsAre, hosts_are}
 use Rattle.gate_model.proofs.BoundTables.{lawful_used, lawful_after}
 use Rattle.gate_model.proofs.BoundUses.{use_of, far_known}
@@ -186,3 +190,32 @@ names_called rules w e lawful v dns = λ k a within.
     let stands = kept_stands rules w e x until lawful v (inr (dns, Contains-get_or names k a within, refl)) in
     image_called (at_moment w e.moment).table (table_by rules w e) e.side x (called_by rules w e x)
     (cross_back (table_by rules w e) e.side x.0 (called_by rules w e x).0 until (lawful_by rules w e lawful) stands).there
+
+same_images : (f g : Addr → Option Addr) (xs : List Addr) → All (λ a. f a ≡ g a) xs → map f xs ≡ map g xs
+same_images f g [] h = refl
+same_images f g (x ∷ xs) h =
+    ap (λ (o : Option Addr). o ∷ map f xs) (All-head (λ (a : Addr). f a ≡ g a) x xs h)
+    ∙ ap (λ (os : List (Option Addr)). g x ∷ os) (same_images f g xs (All-tail (λ (a : Addr). f a ≡ g a) x xs h))
+
+dns_out : {S : Type 0} (rules : SessionRules S) (live : World S) (side : Side) (moment : ℕ) (d : Datagram) (kind : Kind) → kind ≡ Whole Dns
+    → out_kind rules live side moment d kind
+    ≡ renamed (with_payload d (names_after live.table (table_after rules live side moment d kind) side d))
+    (called (table_after rules live side moment d kind) side (source_of d)).0
+    (called (table_after rules live side moment d kind) side (destination_of d)).0 ∷ []
+dns_out rules live side moment d (Whole Dns) e = refl
+dns_out rules live side moment d (Whole Udp) e = cc
+dns_out rules live side moment d (Whole Echo) e = cc
+dns_out rules live side moment d (Whole Error) e = cc
+dns_out rules live side moment d (Whole Snmp) e = cc
+dns_out rules live side moment d Stream e = cc
+
+pub goes_out_called : {S : Type 0} (rules : SessionRules S) (w : World S) (e : Event) → verdict rules w e ≡ Pass
+    → kind_of (datagram_in e) ≡ Whole Dns → NamesAreCalled rules w e → GoesOutCalled rules w e
+goes_out_called rules w e passes kind named =
+    let live = at_moment w e.moment in
+    let d = datagram_in e in
+    let m = message_in d in
+    let g : Addr → Option Addr = λ a. if is_same live.table a then None else Some (called_by rules w e a) in
+    ap (out_by rules live e) passes ∙ dns_out rules live e.side e.moment d (kind_of d) kind
+    ∙ ap (λ (images : List (Option Addr)). renamed (with_payload d (reply_by images (carried d) m)) (sent_from rules w e).0 (sent_to rules w e).0 ∷ [])
+    (same_images (image_after live.table (table_by rules w e) e.side) g (named_in m) named)

@@ -7,8 +7,8 @@ use Rattle.std.proofs.lemmas.List.Elements.{All-weaker, All-map, All-push, All-f
 use Rattle.gate_base.specs.Prelude.{Event, other, same_side}
 use Rattle.gate_base.specs.declared.address.Addr.{Addr}
 use Rattle.gate_base.specs.declared.event.Moment.{Moment}
-use Rattle.gate_base.specs.declared.event.Verdict.{Verdict}
-use Rattle.gate_base.specs.declared.event.Verdict.TheVariants.{Pass, Refused, Held}
+use Rattle.verdicts.specs.declared.verdict.Verdict.{Verdict}
+use Rattle.verdicts.specs.declared.verdict.Verdict.TheVariants.{Pass, Refused, Held}
 use Rattle.gate_base.specs.declared.side.Side.{Side}
 use Rattle.gate_base.proofs.Sides.{other_other, same_side-true}
 use Rattle.gate_settings.specs.declared.settings.Settings.{Settings}

@@ -1,9 +1,10 @@
 -- What is known where no test holds.
 use Rattle.std.proofs.Common.{◌≡◌, ℕ, Bool, true, false, List, [], ◌∷◌, ◌++◌, Option, Some, None, refl}
-use Rattle.gate_base.specs.Prelude.{Event, first_that_holds}
-use Rattle.gate_base.specs.declared.event.Verdict.TheVariants.{Pass}
-use Rattle.gate_base.specs.declared.refusal.Refusal.{Refusal}
-use Rattle.gate_base.specs.declared.refusal.Refusal.TheVariants.{NoSession, SessionsFull, PoolEmpty}
+use Rattle.gate_base.specs.Prelude.{Event}
+use Rattle.verdicts.specs.Prelude.{first_that_holds}
+use Rattle.verdicts.specs.declared.verdict.Verdict.TheVariants.{Pass}
+use Rattle.verdicts.specs.declared.refusal.Refusal.{Refusal}
+use Rattle.verdicts.specs.declared.refusal.Refusal.TheVariants.{NoSession, SessionsFull, PoolEmpty}
 use Rattle.gate_base.specs.declared.side.Side.{Side}
 use Rattle.ipv4_frames.specs.Ipv4.{Datagram}
 use Rattle.gate_model.specs.Prelude.{Kind, Stream, datagram_in, header_tests, datagram_tests, transport_tests, kind_of, SessionRules, found_in}

@@ -4,8 +4,8 @@ use Rattle.std.proofs.lemmas.Bool.{and_parts, or_left, or_right, eqb-true, trueâ
 use Rattle.std.proofs.lemmas.List.Elements.{All-nil, All-filter}
 use Rattle.gate_base.specs.Prelude.{Event}
 use Rattle.gate_base.specs.declared.address.Addr.{Addr}
-use Rattle.gate_base.specs.declared.event.Verdict.{Verdict}
-use Rattle.gate_base.specs.declared.event.Verdict.TheVariants.{Pass, Refused, Held}
+use Rattle.verdicts.specs.declared.verdict.Verdict.{Verdict}
+use Rattle.verdicts.specs.declared.verdict.Verdict.TheVariants.{Pass, Refused, Held}
 use Rattle.gate_base.specs.declared.side.Side.{Side}
 use Rattle.gate_base.specs.declared.side.Side.TheVariants.{Left, Right}
 use Rattle.gate_settings.specs.declared.settings.Settings.{Settings}

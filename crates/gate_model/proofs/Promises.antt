@@ -2,7 +2,7 @@
 use Rattle.std.proofs.Common.{◌≡◌, ℕ, List, [], ◌∷◌, ◌++◌, None, refl, sym, ap, subst, ◌∙◌, fold}
 use Rattle.std.proofs.lemmas.List.Sums.{fold-append}
 use Rattle.gate_base.specs.Prelude.{Event}
-use Rattle.gate_base.specs.declared.event.Verdict.TheVariants.{Pass, Refused}
+use Rattle.verdicts.specs.declared.verdict.Verdict.TheVariants.{Pass, Refused}
 use Rattle.gate_base.specs.declared.side.Side.{Side}
 use Rattle.gate_settings.specs.Prelude.{HasForms, IsSound}
 use Rattle.gate_settings.specs.declared.settings.Settings.{Settings}
@@ -25,13 +25,16 @@ use Rattle.gate_model.proofs.FrameRounds.{frame_rounds_few, frame_rounds_raise}
 use Rattle.gate_model.proofs.HostsKept.{KeepsAll, run_hosts}
 use Rattle.gate_model.proofs.HostsOpen.{opening_hosts, pairs_cross}
 use Rattle.gate_model.proofs.ListsWorld.{whole_lists, run_lists, opening_lists, lists_cross, images_stay}
-use Rattle.gate_model.proofs.NamesLast.{kept_stands, names_called}
+use Rattle.gate_model.proofs.Lifetimes.{lifetimes_are}
+use Rattle.gate_model.proofs.NamesLast.{kept_stands, names_called, goes_out_called}
 use Rattle.gate_model.proofs.OriginsKept.{all_come}
 use Rattle.gate_model.proofs.Ports.{untracked}
+use Rattle.gate_model.proofs.ReadBack.{read_as_sent, answers_reply}
 use Rattle.gate_model.proofs.ReadSteps.{out_as, run_as}
 use Rattle.gate_model.proofs.SegmentsTaken.{taken_out}
 use Rattle.gate_model.proofs.RememberedSessions.{TrackedHolds, remembered_reads, remembered_keeps, session_is, run_holds, sessions_are}
 use Rattle.gate_model.proofs.Tracking.{taken_keeps}
+use Rattle.gate_model.proofs.ForGood.{for_good, gets_through}
 use Rattle.gate_model.proofs.Transparency.{translated_are, keeps_alias, comes_back, comes_home}
 
 verdict_is : (w : World WholeSession) (e : Event) → verdict whole_rules w e ≡ verdict_of (reason w e)
@@ -62,6 +65,7 @@ promised settings events sound forms =
               frame_rounds_few host rounds (remembered_after settings done) t knows had (run_holds done settings) below acked all,
             );
             reached = λ now. hosts_reached (known_after settings done) now (hosts done);
+            fixed = λ side host alias is. for_good whole_rules settings done side host alias sound forms (lawful done) is;
             origins = all_come whole_rules settings done;
           };
       frames = λ done others e split. frame_is done e;
@@ -82,6 +86,7 @@ promised settings events sound forms =
             subst (λ (w : World WholeSession). KeepsAlias whole_rules (known_after settings done) e address w x) (sym (later done between e))
             (keeps_alias whole_rules (known_after settings done) e address until between x (lawful done) v
             (kept_stands whole_rules (known_after settings done) e address until (lawful done) v keeps) before less);
+        answers = λ sent goes are is answer. answers_reply whole_rules (known_after settings done) e x sent (lawful done) v goes are is answer;
         replies = λ reply before less. subst (λ (w : World WholeSession). ComesBack whole_rules e w x) (sym (later done between e))
             (comes_back whole_rules (known_after settings done) e between x (lawful done) v reply before less);
         errors = λ about before less. subst (λ (w : World WholeSession). ComesHome whole_rules e w x) (sym (later done between e))
@@ -107,9 +112,12 @@ promised settings events sound forms =
           renames = λ v plain. ap (out_by whole_rules live e) v ∙ goes_once live table e.side e.moment d (called table e.side (source_of d)).0
               (called table e.side (destination_of d)).0 (kind_of d) plain;
           translated = λ v. translated_are whole_rules w e (lawful done) v;
-          named = λ v dns. names_called whole_rules w e (lawful done) v dns;
+          lifetimes = λ v. lifetimes_are whole_rules w e v;
+          octets = λ v goes are. read_as_sent whole_rules w e (lawful done) v goes are;
+          named = λ v dns. let is = names_called whole_rules w e (lawful done) v dns in (is, goes_out_called whole_rules w e v dns is);
           meant = λ v. meant whole_rules settings done e sound forms v;
           untracked = λ kind ports. untracked whole_rules settings done e kind ports;
+          between = λ alias host own far. gets_through whole_rules settings done e alias host sound forms (lawful done) own far;
         }
 
     later : (done between : List Event) (e : Event) → known_after settings (done ++ e ∷ between)

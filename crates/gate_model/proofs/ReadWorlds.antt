@@ -1,10 +1,11 @@
 -- Worlds whose sessions are read as others answer alike.
 use Rattle.std.proofs.Common.{◌≡◌, ℕ, Bool, true, false, ◌==◌, if◌then◌else◌, List, [], ◌∷◌, ◌++◌, map, Option, Some, None, option_map, refl, sym, ◌∙◌, ap, nat_lt, ◌+◌}
 use Rattle.std.proofs.lemmas.List.{length-map}
-use Rattle.gate_base.specs.Prelude.{Event, other, first_that_holds, unless_refused}
+use Rattle.gate_base.specs.Prelude.{Event, other}
+use Rattle.verdicts.specs.Prelude.{first_that_holds, unless_refused}
 use Rattle.gate_base.specs.declared.address.Addr.{Addr}
-use Rattle.gate_base.specs.declared.refusal.Refusal.{Refusal}
-use Rattle.gate_base.specs.declared.refusal.Refusal.TheVariants.{NoSession, SessionsFull, PoolEmpty}
+use Rattle.verdicts.specs.declared.refusal.Refusal.{Refusal}
+use Rattle.verdicts.specs.declared.refusal.Refusal.TheVariants.{NoSession, SessionsFull, PoolEmpty}
 use Rattle.gate_base.specs.declared.side.Side.{Side}
 use Rattle.binding_table.specs.Prelude.{Bindings, free, Use, needed, after_uses, image_after}
 use Rattle.dialogue.specs.Prelude.{Entry}

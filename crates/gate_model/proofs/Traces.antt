@@ -2,9 +2,10 @@
 use Rattle.std.proofs.Common.{◌≡◌, ◌≤◌, ℕ, Bool, true, false, nat_lt, cond, List, [], ◌∷◌, refl, sym, ◌∙◌, ap, arith, inl, inr}
 use Rattle.std.specs.List.{filter}
 use Rattle.std.proofs.lemmas.Bool.{or_cases, or_left, or_right, ltb-true, lt-ltb, true≢false}
-use Rattle.gate_base.specs.Prelude.{Event, first_that_holds}
-use Rattle.gate_base.specs.declared.event.Verdict.TheVariants.{Refused}
-use Rattle.gate_base.specs.declared.refusal.Refusal.{Refusal}
+use Rattle.gate_base.specs.Prelude.{Event}
+use Rattle.verdicts.specs.Prelude.{first_that_holds}
+use Rattle.verdicts.specs.declared.verdict.Verdict.TheVariants.{Refused}
+use Rattle.verdicts.specs.declared.refusal.Refusal.{Refusal}
 use Rattle.binding_table.specs.declared.binding.Binding.{Binding}
 use Rattle.binding_table.specs.Prelude.{is_live}
 use Rattle.tcp_tracker.specs.Prelude.{is_live as is_connected}

@@ -1,15 +1,16 @@
 -- What each tracked session keeps.
 use Rattle.std.proofs.Common.{◌≡◌, ℕ, suc, Bool, true, false, if◌then◌else◌, List, [], ◌∷◌, take, drop, All, Option, Some, None, option_map, refl, subst, option_and_then, slice_get, IfSome, nat_lt, length}
-use Rattle.gate_base.specs.Prelude.{unless_refused, Event}
+use Rattle.gate_base.specs.Prelude.{Event}
+use Rattle.verdicts.specs.Prelude.{unless_refused}
 use Rattle.std.specs.List.{fold, list_any}
 use Rattle.std.proofs.lemmas.List.Elements.{All-get_or, All-push, All-set, All-append, All-take, All-drop, All-filter}
 use Rattle.std.proofs.lemmas.Option.{slice_get_within, get_or_from_slice_get}
 use Rattle.gate_base.specs.declared.address.Addr.{Addr}
 use Rattle.gate_base.specs.declared.event.Pair.{Pair}
-use Rattle.gate_base.specs.declared.refusal.Refusal.{Refusal}
-use Rattle.gate_base.specs.declared.refusal.Refusal.TheVariants.{BadUnit, UnitUnbound, RenamesFull, UnitGrows}
-use Rattle.gate_base.specs.declared.event.Verdict.{Verdict}
-use Rattle.gate_base.specs.declared.event.Verdict.TheVariants.{Pass, Refused, Held}
+use Rattle.verdicts.specs.declared.refusal.Refusal.{Refusal}
+use Rattle.verdicts.specs.declared.refusal.Refusal.TheVariants.{BadUnit, UnitUnbound, RenamesFull, UnitGrows}
+use Rattle.verdicts.specs.declared.verdict.Verdict.{Verdict}
+use Rattle.verdicts.specs.declared.verdict.Verdict.TheVariants.{Pass, Refused, Held}
 use Rattle.gate_base.specs.declared.side.Side.{Side}
 use Rattle.gate_base.specs.declared.host.Host.{Host}
 use Rattle.binding_table.specs.Prelude.{Bindings}

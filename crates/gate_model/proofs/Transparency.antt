@@ -1,17 +1,18 @@
 -- Replies come back, and aliases mean one host.
 use Rattle.std.proofs.Common.{◌≡◌, ◌<◌, ◌⊎◌, ℕ, Bool, true, false, not, ◌&&◌, ◌||◌, nat_lt, if◌then◌else◌, List, [], ◌∷◌, ◌++◌, Option}
-use Rattle.std.proofs.Common.{Some, None, is_some, is_none, option_map, refl, sym, ◌∙◌, ap, subst, inl, inr, fold, append_assoc, arith}
+use Rattle.std.proofs.Common.{Some, None, is_some, is_none, option_map, option_and_then, refl, sym, ◌∙◌, ap, subst, inl, inr, fold, append_assoc, arith}
 use Rattle.std.proofs.lemmas.Bool.{cases_Bool, and_from, and_right, or_left, or_right, or_parts, not-false, ltb-true, true≢false}
-use Rattle.gate_base.specs.Prelude.{Event, other, first_that_holds, is_unicast_number}
+use Rattle.gate_base.specs.Prelude.{Event, other, is_unicast_number}
+use Rattle.verdicts.specs.Prelude.{first_that_holds}
 use Rattle.gate_base.specs.declared.address.Addr.{Addr}
-use Rattle.gate_base.specs.declared.event.Verdict.TheVariants.{Pass}
-use Rattle.gate_base.specs.declared.refusal.Refusal.{Refusal}
-use Rattle.gate_base.specs.declared.refusal.Refusal.TheVariants.{TtlSpent, NotUnicast, Protocol, SourceInPool}
-use Rattle.gate_base.specs.declared.refusal.Refusal.TheVariants.{NoBinding, NoSession, SessionsFull, PoolEmpty}
+use Rattle.verdicts.specs.declared.verdict.Verdict.TheVariants.{Pass}
+use Rattle.verdicts.specs.declared.refusal.Refusal.{Refusal}
+use Rattle.verdicts.specs.declared.refusal.Refusal.TheVariants.{TtlSpent, NotUnicast, Protocol, SourceInPool}
+use Rattle.verdicts.specs.declared.refusal.Refusal.TheVariants.{NoBinding, NoSession, SessionsFull, PoolEmpty}
 use Rattle.gate_base.specs.declared.side.Side.{Side}
 use Rattle.gate_base.proofs.Sides.{other_other}
 use Rattle.gate_settings.specs.Prelude.{is_in_same}
-use Rattle.icmp_errors.specs.Inner.{inner_fields}
+use Rattle.icmp_errors.specs.Inner.{inner_fields, inner_with}
 use Rattle.icmp_errors.specs.declared.Inner.{Inner}
 use Rattle.ipv4_frames.specs.Ipv4.{Datagram}
 use Rattle.tcp_tracker.specs.declared.connection.Connection.{Connection}
@@ -24,15 +25,16 @@ use Rattle.binding_table.proofs.Kept.{lawful_expired}
 use Rattle.binding_table.proofs.Used.{known_after}
 use Rattle.gate_model.specs.Called.{table_by, called_by, sent_from, sent_to, header_until, CrossBack, AllBefore}
 use Rattle.gate_model.specs.Frame.{has_other_address, is_other_protocol}
-use Rattle.gate_model.specs.Inner.{inner_session}
+use Rattle.gate_model.specs.Frame.{Error, Dns, Snmp}
+use Rattle.gate_model.specs.Inner.{inner_session, inner_number, inner_after, with_inside}
 use Rattle.gate_model.specs.Prelude.{SessionRules, Kind, Whole, Udp, Echo, Stream, Tracked, World, host_on, at_moment, called, source_of}
 use Rattle.gate_model.specs.Prelude.{destination_of, addresses_of, datagram_in, kind_of, header_tests, datagram_tests, transport_tests, address_tests}
 use Rattle.gate_model.specs.Prelude.{world_tests, is_pool_empty, is_reachable, is_unknown, inside, uses_of, table_after, tests, verdict_of, next, out}
 use Rattle.gate_model.specs.Prelude.{out_by, out_kind, tcp_of, is_tracked_port, found_in, session_in, begins, is_opening, made_by, taker_by, taker_in}
 use Rattle.gate_model.specs.Prelude.{session_refusal, refusal_tests, unit_tests, growth_tests, lacks_session, is_full, names_in, image_in, stream_out}
-use Rattle.gate_model.specs.Verdict.{verdict}
+use Rattle.gate_model.specs.Verdict.{kind_tests, late_tests, payload_addresses, verdict}
 use Rattle.gate_model.specs.Stream.{has_tracked_port}
-use Rattle.gate_model.specs.Transparent.{IsTranslated, KeepsAlias, IsReply, own_tests, own_reason}
+use Rattle.gate_model.specs.Transparent.{IsTranslated, KeepsAlias, MeansOne, IsReply, own_tests, own_reason}
 use Rattle.gate_model.specs.Transparent.{IsUntracked, IsPlainKind, ComesBack, IsAbout, ComesHome}
 use Rattle.gate_model.proofs.AliasesLast.{StandFor, cross_back, called_is, stand_after, stand_expired, stand_through}
 use Rattle.gate_model.proofs.AliasesLast.{lawful_through, lawful_next, lawful_by, passed_table, HostsAre, hosts_are, hosts_later}
@@ -42,7 +44,7 @@ use Rattle.gate_model.proofs.Passing.{NoneHolds, none_head, none_tail, none_left
 -- ## Addresses of hosts, and aliases
 
 -- a host isn't one of its own realm's pool
-host_outside : (table : Bindings) (side : Side) (host alias until : ℕ) → IsLawful table → IsKnownAs table side host alias until
+pub host_outside : (table : Bindings) (side : Side) (host alias until : ℕ) → IsLawful table → IsKnownAs table side host alias until
     → in_pool table side (record { 0 = host }) ≡ false
 host_outside table side host alias until lawful (inl same) = elim (cases_Bool (in_pool table side (record { 0 = host }))) [
   | inl pool ↦ absurd (true≢false (sym same.0 ∙ lawful.pools side (record { 0 = host }) pool))
@@ -58,7 +60,7 @@ some_is : (o : Option Addr) (a : Addr) → o ≡ Some a → is_some o ≡ true
 some_is o a e = ap is_some e
 
 -- the alias of a host of the realm can be reached from the other one
-known_reached : (table : Bindings) (side : Side) (host alias until : ℕ) → IsLawful table → is_unicast_number host ≡ true
+pub known_reached : (table : Bindings) (side : Side) (host alias until : ℕ) → IsLawful table → is_unicast_number host ≡ true
     → IsKnownAs table side host alias until → is_reachable table (other side) (record { 0 = alias }) ≡ true
 known_reached table side host alias until lawful unicast (inl same) =
     let inside_same : is_in_same (record { 0 = host }) table.same ≡ true =
@@ -127,65 +129,66 @@ header_stands : {S : Type 0} (rules : SessionRules S) (w : World S) (e : Event) 
     × StandFor (table_by rules w e) e.side (datagram_in e).destination (sent_to rules w e).0 (header_until rules w e)
 header_stands rules w e lawful v = let h = hosts_are rules w e lawful v in (inl h.own, inr h.far)
 
+other_way : (table : Bindings) (side : Side) (address image until : ℕ) → StandFor table side address image until
+    → StandFor table (other side) image address until
+other_way table side address image until (inl h) = inr (subst (λ (s : Side). IsKnownAs table s address image until) (sym (other_other side)) h)
+other_way table side address image until (inr h) = inl h
+
+means_one : {S : Type 0} (rules : SessionRules S) (last : World S) (x : Event) (side : Side) (address image : Addr) (until : ℕ) → IsLawful last.table
+    → StandFor (at_moment last x.moment).table side address.0 image.0 until → MeansOne rules side address image last x
+means_one {S = S} rules last x side address image until lawful now = record {
+  maps = λ own source. called_is (table_by rules last x) x.side (source_of dx) image
+      (ap (λ (s : Side). seen (table_by rules last x) s (source_of dx)) own ∙ ap (λ (a : Addr). seen (table_by rules last x) side a) source
+      ∙ later.there);
+  reaches = λ outside unicast far destination. (
+    ap (λ (s : Side). is_reachable (at_moment last x.moment).table s (destination_of dx)) far
+        ∙ ap (λ (a : Addr). is_reachable (at_moment last x.moment).table (other side) a) destination
+        ∙ reached (at_moment last x.moment).table side address.0 image.0 until (lawful_expired last.table (record { 0 = x.moment }) lawful) outside
+        unicast now,
+    called_is (table_by rules last x) x.side (destination_of dx) address
+        (ap (λ (s : Side). seen (table_by rules last x) s (destination_of dx)) far
+        ∙ ap (λ (a : Addr). seen (table_by rules last x) (other side) a) destination ∙ later.back),
+  );
+  alone = λ own passes from.
+      let mine = (cross_back (table_by rules last x) x.side dx.source (sent_from rules last x).0 (header_until rules last x) lawful_x
+      (header_stands rules last x lawful passes).0).back in
+      let same : Some (source_of dx) ≡ Some address = sym mine
+      ∙ ap (λ (s : Side). seen (table_by rules last x) (other s) (sent_from rules last x)) own
+      ∙ ap (λ (a : Addr). seen (table_by rules last x) (other side) a) from ∙ later.back in
+      cc;
+}
+  where
+    dx : Datagram
+    dx = datagram_in x
+
+    lawful_x : IsLawful (table_by rules last x)
+    lawful_x = lawful_by rules last x lawful
+
+    later : CrossBack (table_by rules last x) side address image
+    later =
+        cross_back (table_by rules last x) side address.0 image.0 until lawful_x
+        (stand_after (uses_of rules (at_moment last x.moment) x.side x.moment (datagram_in x) (kind_of (datagram_in x)))
+        (at_moment last x.moment).table side address.0 image.0 until now)
+
 pub keeps_alias : {S : Type 0} (rules : SessionRules S) (w : World S) (e : Event) (address : Addr) (until : ℕ) (between : List Event)
     (x : Event) → IsLawful w.table → verdict rules w e ≡ Pass
     → StandFor (table_by rules w e) e.side address.0 (called_by rules w e address).0 until → AllBefore until between → x.moment < until
     → KeepsAlias rules w e address (fold (next rules) (next rules w e) between) x
-keeps_alias {S = S} rules w e address until between x lawful v stands before less = record {
-  crosses = cross_back live_table e.side address.0 image.0 until lawful_live now;
-  maps = λ side source. called_is (table_by rules last x) x.side (source_of dx) image
-      (ap (λ (s : Side). seen (table_by rules last x) s (source_of dx)) side
-      ∙ ap (λ (a : Addr). seen (table_by rules last x) e.side a) source ∙ later.there);
-  reaches = λ outside unicast side destination. (
-    ap (λ (s : Side). is_reachable live_table s (destination_of dx)) side
-        ∙ ap (λ (a : Addr). is_reachable live_table (other e.side) a) destination
-        ∙ reached live_table e.side address.0 image.0 until lawful_live outside unicast now,
-    called_is (table_by rules last x) x.side (destination_of dx) address
-        (ap (λ (s : Side). seen (table_by rules last x) s (destination_of dx)) side
-        ∙ ap (λ (a : Addr). seen (table_by rules last x) (other e.side) a) destination ∙ later.back),
-  );
-  alone = λ side passes from.
-      let mine = (cross_back (table_by rules last x) x.side dx.source (sent_from rules last x).0 (header_until rules last x) lawful_x
-      (header_stands rules last x lawful_last passes).0).back in
-      let same : Some (source_of dx) ≡ Some address = sym mine
-      ∙ ap (λ (s : Side). seen (table_by rules last x) (other s) (sent_from rules last x)) side
-      ∙ ap (λ (a : Addr). seen (table_by rules last x) (other e.side) a) from ∙ later.back in
-      cc;
-}
-  where
-    last : World S
-    last = fold (next rules) (next rules w e) between
-
-    dx : Datagram
-    dx = datagram_in x
-
-    image : Addr
-    image = called_by rules w e address
-
-    live_table : Bindings
-    live_table = (at_moment (fold (next rules) (next rules w e) between) x.moment).table
-
-    lawful_last : IsLawful (fold (next rules) (next rules w e) between).table
-    lawful_last = lawful_through rules between (next rules w e) (lawful_next rules w e lawful)
-
-    lawful_live : IsLawful (at_moment (fold (next rules) (next rules w e) between) x.moment).table
-    lawful_live = lawful_expired (fold (next rules) (next rules w e) between).table (record { 0 = x.moment }) lawful_last
-
-    lawful_x : IsLawful (table_by rules (fold (next rules) (next rules w e) between) x)
-    lawful_x = lawful_by rules (fold (next rules) (next rules w e) between) x lawful_last
-
-    now : StandFor (at_moment (fold (next rules) (next rules w e) between) x.moment).table e.side address.0 (called_by rules w e address).0 until
-    now =
-        stand_expired (fold (next rules) (next rules w e) between).table e.side address.0 (called_by rules w e address).0 until x.moment less
-        (stand_through rules between (next rules w e) e.side address.0 (called_by rules w e address).0 until before
-        (subst (λ (t : Bindings). StandFor t e.side address.0 (called_by rules w e address).0 until) (sym (passed_table rules w e v)) stands))
-
-    later : CrossBack (table_by rules (fold (next rules) (next rules w e) between) x) e.side address (called_by rules w e address)
-    later =
-        cross_back (table_by rules (fold (next rules) (next rules w e) between) x) e.side address.0 (called_by rules w e address).0 until lawful_x
-        (stand_after (uses_of rules (at_moment (fold (next rules) (next rules w e) between) x.moment) x.side x.moment (datagram_in x)
-        (kind_of (datagram_in x))) (at_moment (fold (next rules) (next rules w e) between) x.moment).table e.side address.0
-        (called_by rules w e address).0 until now)
+keeps_alias {S = S} rules w e address until between x lawful v stands before less =
+    let last : World S = fold (next rules) (next rules w e) between in
+    let image : Addr = called_by rules w e address in
+    let lawful_last : IsLawful last.table = lawful_through rules between (next rules w e) (lawful_next rules w e lawful) in
+    let now : StandFor (at_moment last x.moment).table e.side address.0 image.0 until =
+    stand_expired last.table e.side address.0 image.0 until x.moment less
+    (stand_through rules between (next rules w e) e.side address.0 image.0 until before
+    (subst (λ (t : Bindings). StandFor t e.side address.0 image.0 until) (sym (passed_table rules w e v)) stands)) in
+    record {
+      crosses = cross_back (at_moment last x.moment).table e.side address.0 image.0 until
+          (lawful_expired last.table (record { 0 = x.moment }) lawful_last) now;
+      own = means_one rules last x e.side address image until lawful_last now;
+      far = means_one rules last x (other e.side) image address until lawful_last
+          (other_way (at_moment last x.moment).table e.side address.0 image.0 until now);
+    }
 
 -- ## Replies
 
@@ -197,14 +200,14 @@ settled_needs Unbound address image h = refl
 settled_needs Empty address image h = cc
 
 -- two addresses that are called something need no alias
-none_needed : (table : Bindings) (side : Side) (a b x y : Addr) → seen table side a ≡ Some x → seen table side b ≡ Some y
+pub none_needed : (table : Bindings) (side : Side) (a b x y : Addr) → seen table side a ≡ Some x → seen table side b ≡ Some y
     → needed table side (a ∷ b ∷ []) ≡ 0
 none_needed table side a b x y e f = rw (settled_needs (cross table side a) a x e, settled_needs (cross table side b) b y f) refl
 
-two_fail : (a b : Bool) (r s : Refusal) → a ≡ false → b ≡ false → first_that_holds ((a, r) ∷ (b, s) ∷ []) ≡ None
+pub two_fail : (a b : Bool) (r s : Refusal) → a ≡ false → b ≡ false → first_that_holds ((a, r) ∷ (b, s) ∷ []) ≡ None
 two_fail a b r s e f = rw (e, f) refl
 
-ahead : (xs ys : List (Bool × Refusal)) → first_that_holds xs ≡ None → first_that_holds (xs ++ ys) ≡ first_that_holds ys
+pub ahead : (xs ys : List (Bool × Refusal)) → first_that_holds xs ≡ None → first_that_holds (xs ++ ys) ≡ first_that_holds ys
 ahead [] ys e = refl
 ahead ((true, r) ∷ xs) ys e = cc
 ahead ((false, r) ∷ xs) ys e = ahead xs ys e
@@ -214,13 +217,13 @@ behind [] ys e = e
 behind ((true, r) ∷ xs) ys e = refl
 behind ((false, r) ∷ xs) ys e = behind xs ys e
 
-same_behind : (xs ys zs : List (Bool × Refusal)) → first_that_holds ys ≡ first_that_holds zs
+pub same_behind : (xs ys zs : List (Bool × Refusal)) → first_that_holds ys ≡ first_that_holds zs
     → first_that_holds (xs ++ ys) ≡ first_that_holds (xs ++ zs)
 same_behind [] ys zs e = e
 same_behind ((true, r) ∷ xs) ys zs e = refl
 same_behind ((false, r) ∷ xs) ys zs e = same_behind xs ys zs e
 
-not_below : (n : ℕ) → nat_lt n 0 ≡ false
+pub not_below : (n : ℕ) → nat_lt n 0 ≡ false
 not_below n = elim (cases_Bool (nat_lt n 0)) [ inl e ↦ absurd (let less = ltb-true n 0 e in omega (arith, less)) | inr e ↦ e ]
 
 -- no test of the world holds of a plain kind whose addresses are known
@@ -240,10 +243,10 @@ world_none rules live side moment d (Whole Udp) plain addresses room = pool_enou
 world_none rules live side moment d (Whole Echo) plain addresses room = pool_enough live.table side d addresses room
 world_none rules live side moment d _ plain addresses room = absurd plain
 
-in_order : (a b c d : List (Bool × Refusal)) → (a ++ (b ++ c)) ++ d ≡ a ++ (b ++ (c ++ d))
+pub in_order : (a b c d : List (Bool × Refusal)) → (a ++ (b ++ c)) ++ d ≡ a ++ (b ++ (c ++ d))
 in_order a b c d = append_assoc a (b ++ c) d ∙ ap (λ (xs : List (Bool × Refusal)). a ++ xs) (append_assoc b c d)
 
-plain_verdict : {S : Type 0} (rules : SessionRules S) (v : World S) (r : Event) → IsPlainKind (kind_of (datagram_in r))
+pub plain_verdict : {S : Type 0} (rules : SessionRules S) (v : World S) (r : Event) → IsPlainKind (kind_of (datagram_in r))
     → first_that_holds (address_tests (at_moment v r.moment).table r.side (datagram_in r)) ≡ None
     → needed (at_moment v r.moment).table r.side (addresses_of (datagram_in r)) ≡ 0 → verdict rules v r ≡ verdict_of (own_reason r)
 unfolding verdict
@@ -315,7 +318,7 @@ stream_none {S = S} rules live side moment d addresses room ports session =
     (is_full live.connections found d) (is_pool_empty rules live side d Stream) (taker_in rules live side moment d) addresses lacks pool
     (taker_none rules (table_after rules live side moment d Stream) side d found session port)
 
-segment_verdict : {S : Type 0} (rules : SessionRules S) (v : World S) (r : Event) → IsUntracked v r
+pub segment_verdict : {S : Type 0} (rules : SessionRules S) (v : World S) (r : Event) → IsUntracked v r
     → first_that_holds (address_tests (at_moment v r.moment).table r.side (datagram_in r)) ≡ None
     → needed (at_moment v r.moment).table r.side (addresses_of (datagram_in r)) ≡ 0
     → verdict rules v r ≡ verdict_of (first_that_holds (own_tests r ++
@@ -332,7 +335,36 @@ segment_verdict {S = S} rules v r is addresses room =
     ∙ same_behind (own_tests r) (world_tests rules live r.side r.moment d Stream) last
     (stream_none rules live r.side r.moment d addresses room is.ports is.session))
 
-segment_out : {S : Type 0} (rules : SessionRules S) (v : World S) (r : Event) → IsUntracked v r
+-- a frame whose addresses are no reason to refuse it is refused for what it is by itself, or for what it carries
+pub past_addresses : {S : Type 0} (rules : SessionRules S) (w : World S) (e : Event)
+    → first_that_holds (address_tests (at_moment w e.moment).table e.side (datagram_in e)) ≡ None
+    → verdict rules w e ≡ verdict_of (first_that_holds (own_tests e ++
+    (kind_tests rules (at_moment w e.moment) e.side e.moment (datagram_in e) (kind_of (datagram_in e))
+    ++ (is_pool_empty rules (at_moment w e.moment) e.side (datagram_in e) (kind_of (datagram_in e)), PoolEmpty)
+    ∷ late_tests rules (at_moment w e.moment) e.side e.moment (datagram_in e) (kind_of (datagram_in e)))))
+unfolding verdict
+past_addresses rules w e none =
+    let live = at_moment w e.moment in
+    let d = datagram_in e in
+    let rest : List (Bool × Refusal) = kind_tests rules live e.side e.moment d (kind_of d)
+    ++ (is_pool_empty rules live e.side d (kind_of d), PoolEmpty) ∷ late_tests rules live e.side e.moment d (kind_of d) in
+    let first = address_tests live.table e.side d in
+    ap verdict_of
+    (ap first_that_holds (sym (in_order (header_tests e) (datagram_tests d) (transport_tests d) (first ++ rest)))
+    ∙ same_behind (own_tests e) (first ++ rest) rest (ahead first rest none))
+
+-- where nothing more is named, the pool is asked for nothing
+pub none_named : {S : Type 0} (rules : SessionRules S) (w : World S) (e : Event)
+    → needed (at_moment w e.moment).table e.side (addresses_of (datagram_in e)) ≡ 0
+    → payload_addresses rules (at_moment w e.moment) e.side (datagram_in e) (kind_of (datagram_in e)) ≡ []
+    → is_pool_empty rules (at_moment w e.moment) e.side (datagram_in e) (kind_of (datagram_in e)) ≡ false
+none_named rules w e room none =
+    let live = at_moment w e.moment in
+    let d = datagram_in e in
+    ap (λ (names : List Addr). nat_lt (free live.table (other e.side)) (needed live.table e.side (addresses_of d ++ names))) none
+    ∙ ap (λ (n : ℕ). nat_lt (free live.table (other e.side)) n) room ∙ not_below (free live.table (other e.side))
+
+pub segment_out : {S : Type 0} (rules : SessionRules S) (v : World S) (r : Event) → IsUntracked v r
     → out_kind rules (at_moment v r.moment) r.side r.moment (datagram_in r) (kind_of (datagram_in r))
     ≡ renamed (datagram_in r) (sent_from rules v r).0 (sent_to rules v r).0 ∷ []
 segment_out {S = S} rules v r is =
@@ -352,7 +384,7 @@ segment_out {S = S} rules v r is =
         ap (stream_out rules (image_in rules live side moment d) side d (called table side (source_of d)).0
         (called table side (destination_of d)).0) t
 
-plain_out : {S : Type 0} (rules : SessionRules S) (live : World S) (side : Side) (moment : ℕ) (d : Datagram) (kind : Kind)
+pub plain_out : {S : Type 0} (rules : SessionRules S) (live : World S) (side : Side) (moment : ℕ) (d : Datagram) (kind : Kind)
     → IsPlainKind kind → out_kind rules live side moment d kind
     ≡ renamed d (called (table_after rules live side moment d kind) side (source_of d)).0
     (called (table_after rules live side moment d kind) side (destination_of d)).0 ∷ []
@@ -370,6 +402,8 @@ comes_back {S = S} rules w e between r lawful v reply before less = record {
   to = to;
   plain = plain;
   segment = λ is. segment_verdict rules (fold (next rules) (next rules w e) between) r is addresses room;
+  carries = past_addresses rules (fold (next rules) (next rules w e) between) r addresses;
+  pool = λ none. none_named rules (fold (next rules) (next rules w e) between) r room none;
   segment_sent = λ is passes.
       ap (out_by rules live r) passes ∙ segment_out rules (fold (next rules) (next rules w e) between) r is
       ∙ ap (λ (a : Addr). renamed dr a.0 (sent_to rules (fold (next rules) (next rules w e) between) r).0 ∷ []) from
@@ -472,6 +506,27 @@ bound_of : {T : Type 0} (a b : Option Addr) (x y : Addr) (o : Option T) (f : T �
     → ((is_none a || is_none b) || is_unknown (option_map f o)) ≡ false
 bound_of a b x y o f e g h = rw (e, g, h) refl
 
+error_out : {S : Type 0} (rules : SessionRules S) (live : World S) (side : Side) (moment : ℕ) (d : Datagram) (kind : Kind) → kind ≡ Whole Error
+    → out_kind rules live side moment d kind ≡ renamed (with_inside d (inner_after rules live side (inside d)))
+    (called (table_after rules live side moment d kind) side (source_of d)).0
+    (called (table_after rules live side moment d kind) side (destination_of d)).0 ∷ []
+error_out rules live side moment d (Whole Error) e = refl
+error_out rules live side moment d (Whole Udp) e = cc
+error_out rules live side moment d (Whole Echo) e = cc
+error_out rules live side moment d (Whole Dns) e = cc
+error_out rules live side moment d (Whole Snmp) e = cc
+error_out rules live side moment d Stream e = cc
+
+inside_is : {S : Type 0} (rules : SessionRules S) (live : World S) (side : Side) (octets : List ℕ) (a b : Addr)
+    → seen live.table side (inner_fields octets).source ≡ Some a → seen live.table side (inner_fields octets).destination ≡ Some b
+    → inner_after rules live side octets
+    ≡ inner_with octets a.0 b.0 (option_and_then (λ number. number) (inner_number rules live side (inner_fields octets)))
+inside_is rules live side octets a b e f =
+    let inner = inner_fields octets in
+    let number = option_and_then (λ number. number) (inner_number rules live side inner) in
+    ap (λ (x : Addr). inner_with octets x.0 (called live.table side inner.destination).0 number) (called_is live.table side inner.source a e)
+    ∙ ap (λ (x : Addr). inner_with octets a.0 x.0 number) (called_is live.table side inner.destination b f)
+
 pub comes_home : {S : Type 0} (rules : SessionRules S) (w : World S) (e : Event) (between : List Event) (r : Event) → IsLawful w.table
     → verdict rules w e ≡ Pass → IsAbout rules w e r → AllBefore (header_until rules w e) between → r.moment < header_until rules w e
     → ComesHome rules e (fold (next rules) (next rules w e) between) r
@@ -482,6 +537,11 @@ comes_home {S = S} rules w e between r lawful v about before less = record {
       bound_of (seen table r.side inner.source) (seen table r.side inner.destination) (source_of (datagram_in e))
       (destination_of (datagram_in e)) (inner_session live r.side inner)
       (λ (t : Tracked S). rules.inner (host_on (other r.side) t) t.session inner.sequence) source destination none;
+  sent = λ kind passes.
+      ap (out_by rules live r) passes ∙ error_out rules live r.side r.moment (datagram_in r) (kind_of (datagram_in r)) kind
+      ∙ ap (λ (octets : List ℕ). renamed (with_inside (datagram_in r) octets) (sent_from rules (fold (next rules) (next rules w e) between) r).0
+      (sent_to rules (fold (next rules) (next rules w e) between) r).0 ∷ [])
+      (inside_is rules live r.side (inside (datagram_in r)) (source_of (datagram_in e)) (destination_of (datagram_in e)) source destination);
 }
   where
     inner : Inner

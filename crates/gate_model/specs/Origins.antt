@@ -2,7 +2,7 @@
 use Rattle.std.specs.Prelude.{◌≡◌, ◌<◌, ◌⊎◌, true, false, Contains, List, ◌∷◌, ◌++◌, map}
 use Rattle.std.specs.List.{fold}
 use Rattle.gate_base.specs.Prelude.{Event, other}
-use Rattle.gate_base.specs.declared.event.Verdict.TheVariants.{Pass}
+use Rattle.verdicts.specs.declared.verdict.Verdict.TheVariants.{Pass}
 use Rattle.gate_settings.specs.declared.settings.Settings.{Settings}
 use Rattle.binding_table.specs.declared.binding.Binding.{Binding}
 use Rattle.binding_table.specs.Prelude.{Use, fixed_binding}

@@ -1,19 +1,23 @@
 -- What is promised of the frames of two realms, whatever they are.
-use Rattle.std.specs.Prelude.{◌≡◌, ◌≤◌, ◌<◌, ◌+◌, ◌⊎◌, ℕ, true, false, All, List, [], ◌∷◌, ◌++◌, length, Option, Some, None}
+use Rattle.std.specs.Prelude.{◌≡◌, ◌≤◌, ◌<◌, ◌+◌, ◌-◌, ◌⊎◌, ℕ, true, false, All, List, [], ◌∷◌, ◌++◌, length, Option, Some, None}
 use Rattle.std.specs.List.{fold}
 use Rattle.dialogue.specs.Prelude.{image}
-use Rattle.gate_base.specs.Prelude.{Event, first_that_holds}
+use Rattle.gate_base.specs.Prelude.{Event, other}
+use Rattle.verdicts.specs.Prelude.{first_that_holds}
 use Rattle.gate_base.specs.declared.address.Addr.{Addr}
-use Rattle.gate_base.specs.declared.event.Verdict.TheVariants.{Pass, Refused}
-use Rattle.gate_base.specs.declared.refusal.Refusal.{Refusal}
+use Rattle.verdicts.specs.declared.verdict.Verdict.TheVariants.{Pass, Refused}
+use Rattle.verdicts.specs.declared.refusal.Refusal.{Refusal}
 use Rattle.gate_base.specs.declared.host.Host.{Host}
+use Rattle.gate_base.specs.declared.side.Side.{Side}
 use Rattle.gate_settings.specs.declared.settings.Settings.{Settings}
 use Rattle.binding_table.specs.Prelude.{is_same}
-use Rattle.twice_translate.specs.Renamed.{renamed}
-use Rattle.gate_model.specs.Called.{IsKeptUntil, AllBefore, header_until, table_by, sent_from, sent_to}
+use Rattle.twice_translate.specs.Renamed.{datagram_of, renamed}
+use Rattle.gate_model.specs.Called.{CrossBack, IsKeptUntil, AllBefore, header_until, table_by, sent_from, sent_to}
+use Rattle.gate_model.specs.ForGood.{IsFixed}
 use Rattle.gate_model.specs.Frame.{Dns, Whole, Stream, datagram_in, kind_of}
 use Rattle.gate_model.specs.GoingOn.{streams_of, OnlyRestsWait, HasDataSegment, GoesOnBy, ComesThrough}
 use Rattle.gate_model.specs.Held.{PairCrosses, KeepsLists, ListsCross, KeepsImages}
+use Rattle.gate_model.specs.Octets.{AreOctets, GoesAsItCame, IsReadAs, IsAnswer}
 use Rattle.gate_model.specs.Origins.{ComesFromUse, IsMeant}
 use Rattle.gate_model.specs.Reading.{world_as}
 use Rattle.gate_model.specs.Rounds.{FrameRound, AllFrameRounds, after_frame_rounds}
@@ -22,11 +26,12 @@ use Rattle.gate_model.specs.Sessions.{WholeSession}
 use Rattle.gate_model.specs.Step.{next, out, taker_in, translated}
 use Rattle.gate_model.specs.Stream.{has_tracked_port}
 use Rattle.gate_model.specs.Taken.{TakesSegment, said, taken_by}
-use Rattle.gate_model.specs.Transparent.{IsTranslated, KeepsAlias, NamesAreCalled, IsReply, ComesBack, IsAbout, ComesHome, IsUntracked, ReachesHosts}
+use Rattle.gate_model.specs.Transparent.{IsTranslated, KeepsAlias, NamesAreCalled, GoesOutCalled, IsReply, ComesBack, IsAbout, ComesHome}
+use Rattle.gate_model.specs.Transparent.{GetsThrough, IsUntracked, ReachesHosts}
 use Rattle.gate_model.specs.Remembered.{RememberedSession, remembering_rules, SessionIs, EachTracked}
 use Rattle.stream_model.specs.Prelude.{acknowledged_of, own}
 use Rattle.gate_model.specs.Verdict.{tests, verdict}
-use Rattle.gate_model.specs.World.{Tracked, World, at_moment, destination_of, opening_world}
+use Rattle.gate_model.specs.World.{Tracked, World, at_moment, destination_of, opening_world, source_of}
 
 -- what is known after these events
 abbrev pub known_after : Settings → List Event → World WholeSession
@@ -61,13 +66,21 @@ pub record FrameIs (settings : Settings) (done : List Event) (w : World WholeSes
   pub renames : verdict whole_rules w e ≡ Pass → IsPlain w e → out whole_rules w e ≡ renaming w e ∷ []
   -- translation is transparent: what passes goes out from an alias, of the realm that it goes to, to a host of that realm;
   pub translated : verdict whole_rules w e ≡ Pass → IsTranslated whole_rules w e
+  -- each datagram that goes out has a lifetime less by 1 (RFC 791, 3.2);
+  pub lifetimes : verdict whole_rules w e ≡ Pass → All (λ octets. (datagram_of octets).lifetime ≡ (datagram_in e).lifetime - 1) (out whole_rules w e)
+  -- whoever gets what goes out as it came reads in its octets between which addresses it goes, and what was sent;
+  pub octets : verdict whole_rules w e ≡ Pass → GoesAsItCame w e → AreOctets e.octets → (sent : List ℕ) × (out whole_rules w e ≡ sent ∷ [])
+      × IsReadAs sent (datagram_in e) (sent_from whole_rules w e).0 (sent_to whole_rules w e).0
   -- a DNS message over UDP goes out with what the addresses that it names are called;
-  pub named : verdict whole_rules w e ≡ Pass → kind_of (datagram_in e) ≡ Whole Dns → NamesAreCalled whole_rules w e
+  pub named : verdict whole_rules w e ≡ Pass → kind_of (datagram_in e) ≡ Whole Dns → NamesAreCalled whole_rules w e × GoesOutCalled whole_rules w e
   -- a frame reaches a host only by a binding that is static, or that a frame has used until a moment that isn't over;
   pub meant : verdict whole_rules w e ≡ Pass
       → (is_same (at_moment w e.moment).table (destination_of (datagram_in e)) ≡ true) ⊎ IsMeant whole_rules settings done w e
-  -- and a TCP segment to no port at which connections are tracked is of no session
+  -- a TCP segment to no port at which connections are tracked is of no session;
   pub untracked : kind_of (datagram_in e) ≡ Stream → has_tracked_port (datagram_in e) ≡ false → IsUntracked w e
+  -- and a frame between two hosts for which settings fix what they are called gets through, whatever came before
+  pub between : (alias host : Addr) → IsFixed settings e.side (source_of (datagram_in e)) alias
+      → IsFixed settings (other e.side) host (destination_of (datagram_in e)) → GetsThrough whole_rules w e alias host
 
 -- what becomes of an event's segment that a session takes, by what is known before it, and remembered
 pub record SegmentIs (w : World WholeSession) (v : World RememberedSession) (e : Event) (t : Tracked RememberedSession) : Type 0 where
@@ -111,6 +124,8 @@ pub record WorldIs (settings : Settings) (done : List Event) (w : World WholeSes
       → RoundsEnd settings done host t knows had rounds
   -- while a connection lives, both its hosts are reached;
   pub reached : (now : ℕ) → All (λ c. now < c.until.0 → ReachesHosts (at_moment w now).table c) w.connections
+  -- what settings fix is for good: at every moment, whatever frames came, a host and its alias are called each other;
+  pub fixed : (side : Side) (host alias : Addr) → IsFixed settings side host alias → (now : ℕ) → CrossBack (at_moment w now).table side host alias
   -- and a binding that isn't static ends exactly with a use of its own
   pub origins : All (ComesFromUse whole_rules settings done) w.table.entries
 
@@ -119,6 +134,8 @@ pub record LaterIs (w : World WholeSession) (e : Event) (between : List Event) (
   -- while the frame keeps an address, that is called as it was, everybody reaches it so, and nobody else is called so;
   pub aliases : (address : Addr) (until : ℕ) → IsKeptUntil whole_rules w e address until → AllBefore until between → x.moment < until
       → KeepsAlias whole_rules w e address v x
+  -- whoever answers what is read in the octets that went out replies to it;
+  pub answers : (sent : List ℕ) → GoesAsItCame w e → AreOctets e.octets → out whole_rules w e ≡ sent ∷ [] → IsAnswer sent e x → IsReply whole_rules w e x
   -- while its header keeps its addresses, a reply to it comes back;
   pub replies : IsReply whole_rules w e x → AllBefore (header_until whole_rules w e) between → x.moment < header_until whole_rules w e
       → ComesBack whole_rules e v x

@@ -1,7 +1,7 @@
 -- A segment that a session takes.
 use Rattle.std.specs.Prelude.{◌≡◌, ℕ, List, Some, map}
 use Rattle.gate_base.specs.Prelude.{Event}
-use Rattle.gate_base.specs.declared.event.Verdict.TheVariants.{Pass}
+use Rattle.verdicts.specs.declared.verdict.Verdict.TheVariants.{Pass}
 use Rattle.stream_model.specs.Prelude.{Outgoing}
 use Rattle.gate_model.specs.Called.{sent_from, sent_to}
 use Rattle.gate_model.specs.Frame.{Stream, datagram_in, kind_of}

@@ -1,11 +1,12 @@
 -- What becomes of a frame: the first refusal that holds, or it passes.
 use Rattle.std.specs.Prelude.{ℕ, ◌+◌, Bool, true, not, ◌&&◌, ◌||◌, nat_lt, List, [], ◌∷◌, ◌++◌, Option, Some, None, is_some, is_none}
-use Rattle.gate_base.specs.Prelude.{Event, other, first_that_holds}
+use Rattle.gate_base.specs.Prelude.{Event, other}
+use Rattle.verdicts.specs.Prelude.{first_that_holds}
 use Rattle.gate_base.specs.declared.address.Addr.{Addr}
-use Rattle.gate_base.specs.declared.event.Verdict.{Verdict}
-use Rattle.gate_base.specs.declared.event.Verdict.TheVariants.{Pass, Refused}
-use Rattle.gate_base.specs.declared.refusal.Refusal.{Refusal}
-use Rattle.gate_base.specs.declared.refusal.Refusal.TheVariants.{SourceInPool, NoBinding, BadInner, InnerUnbound, BadDns, DnsUnbound, BadSnmp, NoSession, SessionsFull, PoolEmpty, SnmpTooLong}
+use Rattle.verdicts.specs.declared.verdict.Verdict.{Verdict}
+use Rattle.verdicts.specs.declared.verdict.Verdict.TheVariants.{Pass, Refused}
+use Rattle.verdicts.specs.declared.refusal.Refusal.{Refusal}
+use Rattle.verdicts.specs.declared.refusal.Refusal.TheVariants.{SourceInPool, NoBinding, BadInner, InnerUnbound, BadDns, DnsUnbound, BadSnmp, NoSession, SessionsFull, PoolEmpty, SnmpTooLong}
 use Rattle.gate_base.specs.declared.side.Side.{Side}
 use Rattle.gate_settings.specs.Prelude.{is_in_same}
 use Rattle.binding_table.specs.Prelude.{Bindings, in_pool, free, seen, Use, needed, after_uses, image_after}

@@ -2,8 +2,8 @@
 ghost use Rattle.std.specs.Prelude.{◌≡◌, ◌≤◌, ◌<◌, ◌+◌, ◌*◌, ◌⊎◌, ℕ, true, false, if◌then◌else◌, List, [], ◌++◌, map, Option, Some, Ok, length, All};
 ghost use Rattle.std.specs.List.{fold};
 ghost use Rattle.gate_base.specs.Prelude.{Event};
-ghost use Rattle.gate_base.specs.declared.refusal.Refusal.{Refusal};
-ghost use Rattle.gate_base.specs.declared.event.Verdict.TheVariants.{Pass, Refused};
+ghost use Rattle.verdicts.specs.declared.refusal.Refusal.{Refusal};
+ghost use Rattle.verdicts.specs.declared.verdict.Verdict.TheVariants.{Pass, Refused};
 ghost use Rattle.gate_base.specs.declared.host.Host.{Host};
 ghost use Rattle.gate_base.specs.declared.side.Side.{Side};
 ghost use Rattle.gate_settings.specs.Prelude.{IsSound, HasForms};
@@ -43,6 +43,7 @@ ghost use Rattle.gate_model.specs.Verdict.{timeout_by};
 ghost use Rattle.gate_model.specs.declared.timeouts.TheConstants.{NAMED_TIMEOUT};
 ghost use Rattle.gate_model.specs.Called.{IsKeptUntil, AllBefore, header_until, least_seconds};
 ghost use Rattle.gate_model.specs.Transparent.{IsTranslated, KeepsAlias, NamesAreCalled, IsReply, ComesBack, IsAbout, ComesHome, IsUntracked, ReachesHosts};
+ghost use Rattle.gate_model.specs.Sifted.{Rise, passing, all_out};
 ghost use Rattle.gate_model.specs.Origins.{ComesFromUse, IsMeant};
 
 /// A frame that is refused gives no datagram, and moves the clock alone.
@@ -376,4 +377,12 @@ pub fn frames_are_as_promised()
         → IsSound settings
         → HasForms settings
         → Promised settings events }
+{}
+
+/// As long as moments don't fall, the frames that pass give by themselves what all give: each datagram at its event. Those that are
+/// refused leave no trace.
+pub fn refused_frames_are_nothing<S>()
+    ensures { (rules : SessionRules S) (w : World S) (moment : ℕ) (events : List Event)
+        → Rise moment events
+        → all_out rules w events ≡ all_out rules w (passing rules w events) }
 {}

@@ -1,7 +1,7 @@
 -- An event counts once at most.
 use Rattle.std.proofs.Common.{◌≤◌, arith}
-use Rattle.gate_base.specs.declared.event.Verdict.{Verdict}
-use Rattle.gate_base.specs.declared.event.Verdict.TheVariants.{Pass, Refused, Held}
+use Rattle.verdicts.specs.declared.verdict.Verdict.{Verdict}
+use Rattle.verdicts.specs.declared.verdict.Verdict.TheVariants.{Pass, Refused, Held}
 use Rattle.gate_report.specs.Counts.{one_if_passed, one_if_refused}
 
 pub few_passed : (v : Verdict) → one_if_passed v ≤ 1

@@ -4,9 +4,10 @@ use Rattle.std.specs.Char.{digit_value}
 use Rattle.std.specs.Str.Parse.{AllDigits}
 use Rattle.std.proofs.lemmas.Fmt.{decimal_is_IsNumeral, decimal_injective}
 use Rattle.std.proofs.lemmas.List.{append_cancel_left}
-use Rattle.gate_base.specs.declared.event.Verdict.{Verdict}
+use Rattle.verdicts.specs.declared.verdict.Verdict.{Verdict}
 use Rattle.gate_base.specs.declared.side.Side.{Side}
-use Rattle.gate_base.specs.Prelude.{verdict_name, name_of}
+use Rattle.gate_base.specs.Prelude.{name_of}
+use Rattle.verdicts.specs.Prelude.{verdict_name}
 use Rattle.gate_settings.specs.declared.settings.ReportForm.{ReportForm}
 use Rattle.gate_settings.specs.declared.settings.ReportForm.TheVariants.{Text, Json}
 use Rattle.gate_report.specs.Lines.{text_front, event_text, json_front, event_json, line_octets, front_octets, event_line}

@@ -1,8 +1,9 @@
 -- The lines of a report, in either form.
 use Rattle.std.specs.Prelude.{ℕ, Bool, true, false, List, ◌++◌, codes, decimal}
-use Rattle.gate_base.specs.declared.event.Verdict.{Verdict}
+use Rattle.verdicts.specs.declared.verdict.Verdict.{Verdict}
 use Rattle.gate_base.specs.declared.side.Side.{Side}
-use Rattle.gate_base.specs.Prelude.{verdict_name, name_of}
+use Rattle.gate_base.specs.Prelude.{name_of}
+use Rattle.verdicts.specs.Prelude.{verdict_name}
 use Rattle.gate_settings.specs.declared.settings.ReportForm.{ReportForm}
 use Rattle.gate_settings.specs.declared.settings.ReportForm.TheVariants.{Text, Json}
 use Rattle.gate_report.specs.declared.line.Line.{Line}

@@ -1,9 +1,10 @@
 -- The lines of a report as JSON values.
 use Rattle.std.specs.Prelude.{ℕ, true, codes}
 use Rattle.serde_json.specs.Data.{Data, boolean, number, unsigned, string, object, member, no_members}
-use Rattle.gate_base.specs.declared.event.Verdict.{Verdict}
+use Rattle.verdicts.specs.declared.verdict.Verdict.{Verdict}
 use Rattle.gate_base.specs.declared.side.Side.{Side}
-use Rattle.gate_base.specs.Prelude.{verdict_name, name_of}
+use Rattle.gate_base.specs.Prelude.{name_of}
+use Rattle.verdicts.specs.Prelude.{verdict_name}
 use Rattle.gate_report.specs.declared.line.Line.{Line}
 use Rattle.gate_report.specs.declared.line.Line.TheVariants.{Event, Done}
 use Rattle.gate_report.specs.declared.totals.Totals.{Totals}

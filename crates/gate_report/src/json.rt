@@ -7,9 +7,10 @@ ghost use Rattle.gate_report.specs.Values.{value_of, event_value, done_value};
 
 use crate::line::Line;
 use crate::totals::Totals;
-use gate_base::{Side, Verdict};
+use gate_base::Side;
 use serde::{Described, Serialize, Serializer};
 use std::alloc::{AllocError, Global};
+use verdicts::Verdict;
 
 /// Puts a line in JSON, with its line feed, in place of other octets. By a call of its own, so that a line in text pays nothing for it.
 #[inline(never)]

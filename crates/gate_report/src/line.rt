@@ -1,5 +1,6 @@
 use crate::totals::Totals;
-use gate_base::{Moment, Side, Verdict};
+use gate_base::{Moment, Side};
+use verdicts::Verdict;
 
 /// What a report says: one line for each event, and a last line.
 #[derive(Clone, Copy, Debug, PartialEq, Eq)]

@@ -1,13 +1,15 @@
 // Lines in text.
 ghost use Rattle.std.specs.Prelude.{◌≡◌, ◌+◌, ◌≤◌, ◌++◌, drop, length, decimal};
-ghost use Rattle.gate_base.specs.Prelude.{verdict_name, name_of};
+ghost use Rattle.gate_base.specs.Prelude.{name_of};
+ghost use Rattle.verdicts.specs.Prelude.{verdict_name};
 ghost use Rattle.gate_settings.specs.declared.settings.ReportForm.TheVariants.{Text};
 ghost use Rattle.gate_report.specs.Lines.{line_octets, event_text, done_text};
 
 use crate::line::Line;
 use crate::totals::Totals;
-use gate_base::{Side, Verdict};
+use gate_base::Side;
 use itoa::write_digits;
+use verdicts::Verdict;
 
 /// The room in which a line is put together, in octets.
 pub const LINE: usize = 192;

@@ -3,7 +3,8 @@ ghost use Rattle.std.specs.Prelude.{◌≡◌, ◌+◌, ◌≤◌, ◌<◌, ◌^
 ghost use Rattle.gate_report.specs.Counts.{nothing_counted, counted, done_line};
 
 use crate::line::Line;
-use gate_base::{Side, Verdict};
+use gate_base::Side;
+use verdicts::Verdict;
 
 /// What is counted over a run.
 #[derive(Clone, Copy, Debug, PartialEq, Eq)]

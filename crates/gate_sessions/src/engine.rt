@@ -9,9 +9,10 @@ use event_outbox::{Datagrams, Segment};
 use event_payloads::Way;
 use event_segments::Workspace;
 use event_state::{Engine, Stepped};
-use gate_base::{OutOfMemory, Pair, Refusal};
+use gate_base::{OutOfMemory, Pair};
 use std::alloc::Global;
 use tcp_segments::TcpView;
+use verdicts::Refusal;
 
 impl Engine for AnySession {
     ghost use Rattle.std.specs.Prelude.{ℕ, List};

@@ -19,12 +19,13 @@ use dns_plans::{Completed, Entry, Session, UnitOctets};
 use dns_stream::DnsUnits;
 use event_outbox::{Datagrams, Scratch, Segment};
 use ftp_lines::{ClientLines, ServerLines};
-use gate_base::{Addr, DNS_PORT, Host, OutOfMemory, Pair, Refusal};
+use gate_base::{Addr, DNS_PORT, Host, OutOfMemory, Pair};
 use shift_ledger::Recent;
 use std::alloc::Global;
 use std::marker::Model;
 use stream_gate::{FirstSyn, StreamGate};
 use tcp_segments::{TcpView, flags_of};
+use verdicts::Refusal;
 
 /// A segment that passes: which host sends it, and the addresses between which it goes on.
 #[derive(Clone, Copy)]

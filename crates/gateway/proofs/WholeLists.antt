@@ -2,7 +2,7 @@
 use Rattle.std.proofs.Common.{◌≡◌, ℕ, ◌+◌, List, [], ◌∷◌, ◌++◌, length, refl, ap, ◌∙◌}
 use Rattle.gate_base.specs.Prelude.{Event, other}
 use Rattle.frag_join.specs.Prelude.{Arrival, Reaches, Stopped}
-use Rattle.gate_base.specs.declared.event.Verdict.{Verdict}
+use Rattle.verdicts.specs.declared.verdict.Verdict.{Verdict}
 use Rattle.gate_settings.specs.declared.settings.Settings.{Settings as GateSettings}
 use Rattle.pcap_merge.specs.Prelude.{Ending, Done, Fault}
 use Rattle.gate_model.specs.Prelude.{AreRelated, whole_rules, WholeSession, out, verdict}

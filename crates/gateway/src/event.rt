@@ -13,12 +13,13 @@ ghost use Rattle.gateway.specs.Inside.Phases.{CanCount, Handles, counting};
 use crate::report::Reporter;
 use ether_frames::put_head;
 use frag_join::{Joiner, Taken, ask, joined};
-use gate_base::{Event, Link, Moment, Side, Verdict};
+use gate_base::{Event, Link, Moment, Side};
 use gate_core::{Datagrams, Gate};
 use gate_desk::{Desk, Slot};
 use gate_settings::{Settings, SideSettings};
 use pcap_files::write_packet;
 use run_setup::Status;
+use verdicts::Verdict;
 
 /// The octets of an Ethernet head.
 const HEAD: usize = 14;

@@ -1,4 +1,4 @@
-// What holds of every run and make. The function does nothing: its clauses are proved.
+// What holds of every run and make. The functions do nothing: their clauses are proved.
 ghost use Rattle.std.specs.Prelude.{◌≡◌, ℕ, List, Err};
 ghost use Rattle.gate_base.specs.declared.side.Side.{Side};
 ghost use Rattle.gate_desk.specs.Outside.{Outside};
@@ -14,6 +14,12 @@ ghost use Rattle.run_setup.specs.Prelude.{IsAccepted, events_in, NoneRose, IsUnl
 ghost use Rattle.run_setup.specs.RunNames.{Names};
 ghost use Rattle.gateway.specs.Decided.{IsRunOf};
 ghost use Rattle.gateway.specs.Making.{IsMake};
+ghost use Rattle.std.specs.Prelude.{map};
+ghost use Rattle.frag_join.specs.Prelude.{coming};
+ghost use Rattle.gate_model.specs.Prelude.{opening_world, whole_rules};
+ghost use Rattle.gate_model.specs.Sifted.{passing, all_out};
+ghost use Rattle.gateway.specs.Machine.{arrivals_by, given_by_merged};
+ghost use Rattle.gateway.specs.Sifted.{frames_among, frame_at};
 
 /// Where no count rose, the settings and the captures decide the status of a run, but for want of memory. It refuses exactly the
 /// first fault of the settings, and of accepted settings the fault that the merge of both captures meets. It is done where both
@@ -42,4 +48,15 @@ pub fn captures_decide()
         → IsMake status number count report old new
         → NoneRose old new
         → IsUnlessMemory Done status }
+{}
+
+/// Both outgoing captures hold what the frames that pass give by themselves, each datagram at its own event: what is refused at the
+/// gate leaves no trace there.
+pub fn refused_frames_write_nothing()
+    ensures { (settings : GateSettings) (all : PerSlot (List ℕ))
+        → let opening = opening_world settings in
+        let events = coming (arrivals_by settings (events_in all).events) in
+        frames_among (given_by_merged settings (events_in all))
+        ≡ map (frame_at settings)
+        (all_out whole_rules opening (passing whole_rules opening events)) }
 {}

@@ -142,6 +142,11 @@ pub fold_moved : (a b f t : ℕ) → a ≤ 262140 → f ≤ 65535 → 0 < t → 
 unfolding fold_of
 fold_moved a b f t = grind (arith, nat_tests)
 
+-- a right sum, and the field in it
+pub fold_field : (r f : ℕ) → f < 65535 → fold_of (r + f) ≡ 65535 → f ≡ 65535 - fold_of r
+unfolding fold_of
+fold_field r f small right = grind (arith, nat_tests)
+
 -- a checksum of 0 says that the one in the list is right
 pub zero_if_right : (octets : List ℕ) → (checksum octets == 0) ≡ is_right octets
 zero_if_right octets = let small = fold_small (total octets) in grind (arith, nat_tests)

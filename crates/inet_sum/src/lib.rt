@@ -62,6 +62,17 @@ pub fn moved_sum(
     65_535 - fold(new + (5 * 65_535 - old) + (65_535 - field))
 }
 
+/// The checksum of octets whose field holds their right checksum already, and isn't FFFF: it is that field, and no octet is read.
+pub fn kept_sum(octets: &[u8], place: usize) -> u16
+    requires even { place % 2 ≡ 0 }
+    requires within { place + 2 ≤ length octets.now }
+    requires right { IsRight octets.now }
+    requires field { u16_at place octets.now < 65535 }
+    ensures { result ≡ checksum (with_u16 place 0 octets.now) }
+{
+    get_u16(octets, place)
+}
+
 /// A list with its checksum in a field that was 0 has the sum FFFF, and so is right.
 pub fn written_is_right(octets: &[u8], place: usize)
     requires even { place % 2 ≡ 0 }

@@ -5,7 +5,7 @@ use Rattle.gate_base.specs.declared.side.Side.TheVariants.{Left, Right}
 use Rattle.gate_settings.specs.declared.settings.ReportForm.TheVariants.{Json}
 use Rattle.gate_settings.specs.declared.settings.Settings.{Settings}
 use Rattle.ipv4_frames.specs.Ipv4.{read_datagram}
-use Rattle.gate_base.specs.Refusal.{name_of as refusal_name}
+use Rattle.verdicts.specs.Refusal.{name_of as refusal_name}
 use Rattle.gate_base.specs.declared.side.Link.TheVariants.{Ethernet, Raw}
 use Rattle.gate_report.specs.Lines.{event_text, event_json, done_text, done_json}
 use Rattle.pcap_files.specs.Capture.{capture_of, head_of, next_at, up_to, records_from}

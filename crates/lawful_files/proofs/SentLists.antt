@@ -6,9 +6,9 @@ use Rattle.std.proofs.lemmas.List.Elements.{All-take, All-drop, All-nil}
 use Rattle.ether_frames.specs.Ether.{octets_in, read_frame, fields_of, carried}
 use Rattle.ether_frames.specs.declared.head.TheConstants.{IPV4}
 use Rattle.gate_base.specs.Prelude.{Event}
-use Rattle.gate_base.specs.declared.event.Verdict.{Verdict}
+use Rattle.verdicts.specs.declared.verdict.Verdict.{Verdict}
 use Rattle.gate_base.specs.declared.address.Addr.{Addr}
-use Rattle.gate_base.specs.declared.event.Verdict.TheVariants.{Pass, Refused, Held}
+use Rattle.verdicts.specs.declared.verdict.Verdict.TheVariants.{Pass, Refused, Held}
 use Rattle.gate_base.specs.declared.side.Link.{Link}
 use Rattle.gate_base.specs.declared.side.Link.TheVariants.{Ethernet, Raw}
 use Rattle.gate_base.specs.declared.side.Side.{Side}

@@ -1,6 +1,6 @@
 -- Edges of single definitions, computed: whole frames, the verdict on each and the datagrams that go out.
 use Rattle.std.proofs.Common.{◌≡◌, true, List, [], ◌∷◌, refl}
-use Rattle.gate_base.specs.declared.refusal.Refusal.TheVariants.{NotUnicast, Protocol, BadTransport, TtlSpent, BadSnmp, Fragment, NoSession, InnerUnbound}
+use Rattle.verdicts.specs.declared.refusal.Refusal.TheVariants.{NotUnicast, Protocol, BadTransport, TtlSpent, BadSnmp, Fragment, NoSession, InnerUnbound}
 use Rattle.gate_base.specs.declared.side.Link.TheVariants.{Raw}
 use Rattle.gate_base.specs.declared.side.Side.TheVariants.{Left, Right}
 use Rattle.gate_settings.specs.declared.settings.Settings.{Settings}

@@ -1,7 +1,7 @@
 -- The most sessions and the most connections live: computed.
 use Rattle.std.proofs.Common.{◌≡◌, true, false, List, [], ◌∷◌, replicate, Some, None, refl}
-use Rattle.gate_base.specs.declared.event.Verdict.TheVariants.{Pass, Refused}
-use Rattle.gate_base.specs.declared.refusal.Refusal.TheVariants.{SessionsFull, SynData}
+use Rattle.verdicts.specs.declared.verdict.Verdict.TheVariants.{Pass, Refused}
+use Rattle.verdicts.specs.declared.refusal.Refusal.TheVariants.{SessionsFull, SynData}
 use Rattle.gate_base.specs.declared.side.Link.TheVariants.{Raw}
 use Rattle.gate_base.specs.declared.side.Side.TheVariants.{Left, Right}
 use Rattle.gate_settings.specs.declared.settings.Settings.{Settings}

@@ -4,8 +4,8 @@ use Rattle.std.proofs.Common.{◌≡◌, ℕ, ◌+◌, true, false, List, [], �
 use Rattle.std.specs.List.{range_with_len}
 use Rattle.gate_base.specs.declared.address.Addr.{Addr}
 use Rattle.gate_base.specs.declared.event.Pair.{Pair}
-use Rattle.gate_base.specs.declared.event.Verdict.TheVariants.{Pass, Refused}
-use Rattle.gate_base.specs.declared.refusal.Refusal.TheVariants.{BadUnit, RenamesFull, UnitUnbound}
+use Rattle.verdicts.specs.declared.verdict.Verdict.TheVariants.{Pass, Refused}
+use Rattle.verdicts.specs.declared.refusal.Refusal.TheVariants.{BadUnit, RenamesFull, UnitUnbound}
 use Rattle.gate_base.specs.declared.side.Link.TheVariants.{Raw}
 use Rattle.gate_base.specs.declared.side.Side.{Side}
 use Rattle.gate_base.specs.declared.side.Side.TheVariants.{Left, Right}

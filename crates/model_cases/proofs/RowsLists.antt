@@ -1,6 +1,6 @@
 -- Worked cases, computed: whole frames, the verdict on each and the datagrams that go out. Written by tools/model_cases.py.
 use Rattle.std.proofs.Common.{◌++◌, ◌≡◌, true, List, [], ◌∷◌, refl}
-use Rattle.gate_base.specs.declared.refusal.Refusal.TheVariants.{NoBinding, PoolEmpty, UnitGrows}
+use Rattle.verdicts.specs.declared.refusal.Refusal.TheVariants.{NoBinding, PoolEmpty, UnitGrows}
 use Rattle.gate_base.specs.declared.side.Link.TheVariants.{Raw}
 use Rattle.gate_base.specs.declared.side.Side.TheVariants.{Left, Right}
 use Rattle.gate_settings.specs.declared.settings.Settings.{Settings}

@@ -1,6 +1,6 @@
 -- Worked cases, computed: whole frames, the verdict on each and the datagrams that go out. Written by tools/model_cases.py.
 use Rattle.std.proofs.Common.{◌++◌, ◌≡◌, true, false, List, [], ◌∷◌, refl}
-use Rattle.gate_base.specs.declared.refusal.Refusal.TheVariants.{AckAhead, BadHeader, BadHeaderSum, BadInner, BadSum, BadTransport, Fragment, Gap, InnerUnbound, IpOptions, NoAck, NoBinding, NoSession, NotIpv4, NotUnicast, PastEnd, Protocol, Snapped, SourceInPool, SynData, SynInSession, TtlSpent}
+use Rattle.verdicts.specs.declared.refusal.Refusal.TheVariants.{AckAhead, BadHeader, BadHeaderSum, BadInner, BadSum, BadTransport, Fragment, Gap, InnerUnbound, IpOptions, NoAck, NoBinding, NoSession, NotIpv4, NotUnicast, PastEnd, Protocol, Snapped, SourceInPool, SynData, SynInSession, TtlSpent}
 use Rattle.gate_base.specs.declared.side.Link.TheVariants.{Raw}
 use Rattle.gate_base.specs.declared.side.Side.TheVariants.{Left, Right}
 use Rattle.gate_settings.specs.declared.settings.Settings.{Settings}

@@ -1,21 +1,19 @@
--- A round of repeats, computed over a world that is given: a client of FTP sends a line again, and the server acknowledges its image. Another host sends in between.
-use Rattle.std.proofs.Common.{◌≡◌, ◌<◌, ℕ, true, false, [], ◌∷◌, length, Some, None, refl, sym, subst, inl, lit<, lit≤}
+-- A round of repeats, computed over what three frames make: a client of FTP sends a line again, and the server acknowledges its image. Another host sends in between.
+use Rattle.std.proofs.Common.{◌≡◌, ◌<◌, ℕ, true, List, [], ◌∷◌, length, Option, Some, None, unwrap_or, refl, sym, subst, inl, lit<, lit≤}
 use Rattle.gate_base.specs.Prelude.{Event}
-use Rattle.gate_base.specs.declared.event.Pair.{Pair}
-use Rattle.gate_base.specs.declared.event.Verdict.TheVariants.{Pass}
+use Rattle.verdicts.specs.declared.verdict.Verdict.TheVariants.{Pass}
 use Rattle.gate_base.specs.declared.host.Host.TheVariants.{Client}
 use Rattle.gate_base.specs.declared.side.Link.TheVariants.{Raw}
 use Rattle.gate_base.specs.declared.side.Side.TheVariants.{Left, Right}
 use Rattle.gate_settings.specs.declared.settings.Settings.{Settings}
 use Rattle.binding_table.specs.Prelude.{opening}
-use Rattle.ftp_lines.specs.Renaming.{client_lines, server_lines}
-use Rattle.stream_model.specs.Prelude.{Session, own, due_in, extent, arrival, place_acknowledged, acknowledged_of}
+use Rattle.stream_model.specs.Prelude.{own, due_in, extent, arrival, place_acknowledged, acknowledged_of}
 use Rattle.stream_model.specs.Progress.{Covers}
 use Rattle.tcp_tracker.specs.declared.connection.Connection.{Connection}
 use Rattle.gate_model.specs.Frame.{Stream, datagram_in, kind_of}
 use Rattle.gate_model.specs.GoingOn.{streams_of, HasDataSegment}
-use Rattle.gate_model.specs.Prelude.{Tracked, World}
-use Rattle.gate_model.specs.Remembered.{Remembered, RememberedSession, remembering_rules}
+use Rattle.gate_model.specs.Prelude.{Tracked, World, made_by, remembered_after}
+use Rattle.gate_model.specs.Remembered.{RememberedSession, remembering_rules}
 use Rattle.gate_model.specs.Rounds.{FrameRound, at_answer, repeated, answered, IsFrameRound, AllFrameRounds}
 use Rattle.gate_model.specs.Step.{taker_in}
 use Rattle.gate_model.specs.Stream.{segment_of}
@@ -28,63 +26,42 @@ abbrev settings : Settings
 settings = set [] (pool 0xc0a8c801 0xc0a8c8fe) (pool 0xac100901 0xac1009fe)
     (fixed Left 0x0a000005 0xac100901 ∷ fixed Right 0x0a000005 0xc0a8c801 ∷ [])
 
-abbrev pair : Pair
-pair = record {
-  client = record { 0 = 0x0a000005 };
-  client_alias = record { 0 = 0xac100901 };
-  server =
-      record { 0 = 0x0a000005 };
-  server_alias = record { 0 = 0xc0a8c801 };
-}
+-- a client connects to a server of FTP:
+abbrev syn : Event
+syn = event Left 1000000000 Raw true (hex 44 0x4500002c000240004006a81b0a000005c0a8c8019c400015000003e80000000060022000453a0000020405b4)
 
-abbrev both : Session
-both = record {
-  client = record { meaning = client_lines pair; mss = 1460; initial = Some 1000; octets = []; ended = false; acked = 0 };
-  server = record { meaning = server_lines pair; mss = 1460; initial = Some 5000; octets = []; ended = false; acked = 0 };
-}
+abbrev syn_answer : Event
+syn_answer =
+    event Right 2000000000 Raw true (hex 44 0x4500002c0002400040067bb40a000005ac10090100159c4000001388000003e960122000053a0000020405b4)
 
-abbrev none : Remembered
-none = record { sent = []; places = []; numbers = [] }
+abbrev connects : Event
+connects = event Left 3000000000 Raw true (hex 40 0x45000028000240004006a81f0a000005c0a8c8019c400015000003e90000138950102000495e0000)
+
+-- what is remembered then
+abbrev world : World RememberedSession
+world = remembered_after settings (syn ∷ syn_answer ∷ connects ∷ [])
+
+-- the session of the first connection
+abbrev first_of : List (Connection (Tracked RememberedSession)) → Option (Tracked RememberedSession)
+first_of [] = None
+first_of (c ∷ more) = c.session
+
+abbrev begun : Tracked RememberedSession
+begun = made_by remembering_rules (opening settings) Left (datagram_in syn)
 
 abbrev t : Tracked RememberedSession
-t = record {
-  client = Left;
-  pair = pair;
-  session = record {
-    session = record { lists = None; session = both };
-    port = 21;
-    pair =
-        pair;
-    initial = 1000;
-    mss = 1460;
-    past = [];
-    streams = λ host. none;
-  };
-}
-
-abbrev connection : Connection (Tracked RememberedSession)
-connection = record {
-  key = record { left = record { 0 = 0x0a000005 }; left_port = 40000; right = record { 0 = 0x0a000005 }; right_port = 21 };
-  left_acknowledges = true;
-  right_acknowledges = true;
-  closing = false;
-  session = Some t;
-  until = record { 0 = 7440000000000 };
-}
-
-abbrev world : World RememberedSession
-world = record { clock = 0; table = opening settings; connections = connection ∷ []; pending = 0 }
+t = unwrap_or (first_of world.connections) begun
 
 abbrev line : Event
-line = event Left 1000 Raw true
+line = event Left 4000000000 Raw true
     (hex 59 0x4500003b000240004006a80c0a000005c0a8c8019c400015000003e9000013895018200051840000504f52542031302c302c302c352c342c310d0a)
 
 abbrev answer : Event
-answer = event Right 2000 Raw true (hex 40 0x450000280002400040067bb80a000005ac10090100159c4000001389000003fe501020001ce20000)
+answer = event Right 5000000000 Raw true (hex 40 0x450000280002400040067bb80a000005ac10090100159c4000001389000003fe501020001ce20000)
 
 -- another host sends a datagram meanwhile
 abbrev others : Event
-others = event Left 1500 Raw true (hex 30 0x4500001e000140004011a81d0a000007c0a8c8010fa01388000ae191686f)
+others = event Left 4500000000 Raw true (hex 30 0x4500001e000140004011a81d0a000007c0a8c8010fa01388000ae191686f)
 
 abbrev round : FrameRound
 round = record { before = []; repeat = line; between = others ∷ []; has = 21; answer = answer }
@@ -93,7 +70,7 @@ line_passes : verdict remembering_rules world line ≡ Pass
 unfolding frames_on_literals
 line_passes = refl
 
-line_taken : taker_in remembering_rules (at_moment world 1000) Left 1000 (datagram_in line) ≡ Some t
+line_taken : taker_in remembering_rules (at_moment world 4000000000) Left 4000000000 (datagram_in line) ≡ Some t
 unfolding frames_on_literals
 line_taken = refl
 
@@ -117,7 +94,7 @@ answer_passes : verdict remembering_rules (at_answer world round) answer ≡ Pas
 unfolding frames_on_literals
 answer_passes = refl
 
-answer_taken : taker_in remembering_rules (at_moment (at_answer world round) 2000) Right 2000 (datagram_in answer) ≡ Some (repeated world round t)
+answer_taken : taker_in remembering_rules (at_moment (at_answer world round) 5000000000) Right 5000000000 (datagram_in answer) ≡ Some (repeated world round t)
 unfolding frames_on_literals
 answer_taken = refl
 
@@ -139,6 +116,7 @@ acknowledged_then = refl
 
 -- these frames are a round
 a_round : IsFrameRound Client world t 0 0 round
+unfolding frames_on_literals
 a_round = record {
   takes = record { passes = line_passes; stream = line_kind; taker = line_taken };
   by = refl;

@@ -7,8 +7,9 @@ use Rattle.std.proofs.lemmas.List.{get_or_past}
 use Rattle.std.proofs.lemmas.List.Elements.{All-nil, All-cons, All-take, All-drop, All-append, All-push, All-set, All-map, All-filter, All-get_or}
 use Rattle.std.proofs.lemmas.Option.{slice_get_within, get_or_from_slice_get}
 use Rattle.byteorder.specs.Endian.{big_bytes}
-use Rattle.gate_base.specs.Prelude.{Event, with_u16, first_that_holds}
-use Rattle.gate_base.specs.declared.refusal.Refusal.{Refusal}
+use Rattle.gate_base.specs.Prelude.{Event, with_u16}
+use Rattle.verdicts.specs.Prelude.{first_that_holds}
+use Rattle.verdicts.specs.declared.refusal.Refusal.{Refusal}
 use Rattle.gate_base.specs.declared.side.Link.TheVariants.{Raw}
 use Rattle.inet_sum.specs.Sum.{checksum}
 use Rattle.ipv4_frames.specs.Ipv4.{total_length_of}

@@ -1,10 +1,10 @@
 -- What goes out at an event can be written as records.
 use Rattle.std.proofs.Common.{◌≡◌, ◌≤◌, ◌+◌, ℕ, false, List, [], ◌∷◌, ◌++◌, length, take, drop, Option, Some, None, refl, sym, ap, subst, arith, map, option_and_then, ltb-false}
 use Rattle.gate_base.specs.Prelude.{Event}
-use Rattle.gate_base.specs.declared.event.Verdict.{Verdict}
+use Rattle.verdicts.specs.declared.verdict.Verdict.{Verdict}
 use Rattle.gate_base.specs.declared.address.Addr.{Addr}
-use Rattle.gate_base.specs.declared.event.Verdict.TheVariants.{Pass, Refused, Held}
-use Rattle.gate_base.specs.declared.refusal.Refusal.TheVariants.{SnmpTooLong}
+use Rattle.verdicts.specs.declared.verdict.Verdict.TheVariants.{Pass, Refused, Held}
+use Rattle.verdicts.specs.declared.refusal.Refusal.TheVariants.{SnmpTooLong}
 use Rattle.gate_base.specs.declared.side.Side.{Side}
 use Rattle.icmp_errors.specs.Inner.{inner_fields, inner_with}
 use Rattle.binding_table.specs.Prelude.{Bindings}

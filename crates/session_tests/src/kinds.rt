@@ -1,10 +1,11 @@
 // Sessions before their first segment.
 use dns_plans::{Session, UnitOctets};
-use gate_base::{Addr, Host, OutOfMemory, Pair, Refusal};
+use gate_base::{Addr, Host, OutOfMemory, Pair};
 use gate_sessions::AnySession;
 use std::alloc::Global;
 use std::test::Fail;
 use tcp_segments::TcpView;
+use verdicts::Refusal;
 
 const CLIENT: Addr = Addr(0x0a00_0005);
 

@@ -16,8 +16,4 @@ mod model;
 #[cfg(test)]
 mod places;
 #[cfg(test)]
-mod plans;
-#[cfg(test)]
 mod rows;
-#[cfg(test)]
-mod transcripts;

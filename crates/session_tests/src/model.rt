@@ -1,10 +1,11 @@
-use gate_base::{Host, Refusal};
+use gate_base::Host;
 use std::test::Fail;
 use stream_model::{
     Arrival, Extent, Offset, number_after, number_at, place_acknowledged, place_near, refusal,
     start_at,
 };
 use tcp_segments::Flags;
+use verdicts::Refusal;
 
 /// Initial numbers, places and numbers, and how far before the place or after it the number's place lies.
 const PLACES: [(u32, u64, u32, u64, u64); 6] = [

@@ -39,7 +39,8 @@ with_options e = record e { segment = record e.segment { options = 12 } }
 
 -- a SYN with PSH keeps its numbers, and from then on its sender takes 536 octets at a time; a held part of a line is not sent, so PSH isn't
 -- either; the whole line goes on, renamed, with PSH and less octets at a time for its options;
--- its acknowledgement is translated back; a held rest goes with the end, and the end alone until it is acknowledged; an RST goes with neither
+-- its acknowledgement is translated back; a held rest goes with the end, and the end alone until it is acknowledged, also where all octets
+-- before it are; an RST goes with neither
 -- octets nor other flags
 abbrev sent_rows : List Row
 sent_rows =
@@ -48,6 +49,8 @@ sent_rows =
     ∷ (with_options (client_with ack_push 1011 5001 (line (codes "0,5,4,1"))), sends ack_push 1001 5001 1448 (line (codes "PORT 172,16,9,1,4,1")))
     ∷ (server 5001 1022 (codes "2"), sends ack 5001 1020 536 [])
     ∷ (client_with ack_fin 1020 5001 (codes "PORT 1"), sends ack_fin 1022 5001 1460 (codes "PORT 1"))
+    ∷ (client_with ack_fin 1026 5001 [], sends ack_fin 1028 5001 1460 [])
+    ∷ (server 5002 1028 [], sends ack 5001 1026 536 [])
     ∷ (client_with ack_fin 1026 5001 [], sends ack_fin 1028 5001 1460 [])
     ∷ (server 5002 1029 [], sends ack 5001 1027 536 [])
     ∷ (client_with ack_fin 1026 5001 [], sends ack 1028 5001 1460 [])

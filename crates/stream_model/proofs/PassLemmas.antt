@@ -5,12 +5,12 @@ use Rattle.std.proofs.lemmas.Bool.{cases_Bool, ltb-false, or_parts, or_cases, an
 use Rattle.tcp_segments.specs.Prelude.{one_if}
 use Rattle.stream_model.specs.Numbers.{is_number}
 use Rattle.stream_model.specs.Session.{Sender, Segment, extent, arrival, acknowledged_at, place_acknowledged, start_of, repeats_unlike}
-use Rattle.gate_base.specs.Prelude.{first_that_holds}
+use Rattle.verdicts.specs.Prelude.{first_that_holds}
 use Rattle.stream_model.specs.Refusals.{is_data, no_session, syn_data, opens, syn_in_session, no_ack, gap, past_end_at, past_end, ack_ahead, stream_limit, backlog, tests}
 use Rattle.stream_model.specs.declared.numbers.Offset.{Offset}
 use Rattle.stream_model.specs.declared.refusals.Arrival.{Arrival}
 use Rattle.stream_model.specs.declared.refusals.Extent.{Extent}
-use Rattle.gate_base.specs.declared.refusal.Refusal.{Refusal}
+use Rattle.verdicts.specs.declared.refusal.Refusal.{Refusal}
 use Rattle.gate_base.specs.declared.host.Host.{Host}
 use Rattle.gate_base.specs.declared.host.Host.TheVariants.{Client, Server}
 

@@ -1,7 +1,7 @@
 -- The definitions at worked rows, computed: sessions of the lines of FTP, a segment and what goes out for it on each line.
 use Rattle.std.proofs.Common.{◌≡◌, ℕ, true, false, List, [], ◌∷◌, ◌++◌, take, drop, refl, ◌+◌, ◌-◌, ◌^◌, Option, Some, None, codes, replicate, map}
-use Rattle.gate_base.specs.declared.refusal.Refusal.{Refusal}
-use Rattle.gate_base.specs.declared.refusal.Refusal.TheVariants.{NoSession, SynData, SynInSession, NoAck, Gap, PastEnd, AckAhead, Unlike, StreamLimit, Backlog}
+use Rattle.verdicts.specs.declared.refusal.Refusal.{Refusal}
+use Rattle.verdicts.specs.declared.refusal.Refusal.TheVariants.{NoSession, SynData, SynInSession, NoAck, Gap, PastEnd, AckAhead, Unlike, StreamLimit, Backlog}
 use Rattle.gate_base.specs.declared.host.Host.TheVariants.{Client, Server}
 use Rattle.ftp_lines.proofs.OnLiterals.{lines_on_literals}
 use Rattle.stream_model.specs.Numbers.{place_near}

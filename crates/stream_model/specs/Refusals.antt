@@ -1,9 +1,9 @@
 -- The first reason for which a segment of a session is refused (RFC 9293, 3.10.7), by what is known of its sender, its receiver and itself.
 use Rattle.std.specs.Prelude.{◌+◌, ◌-◌, Bool, not, ◌&&◌, ◌||◌, cond, nat_lt, nat_le, ◌==◌, List, [], ◌∷◌, Option, is_some, is_none}
 use Rattle.dialogue.specs.declared.TheConstants.{MOST_RECENT}
-use Rattle.gate_base.specs.Prelude.{first_that_holds}
-use Rattle.gate_base.specs.declared.refusal.Refusal.{Refusal}
-use Rattle.gate_base.specs.declared.refusal.Refusal.TheVariants.{NoSession, SynData, SynInSession, NoAck, Gap, PastEnd, AckAhead, Unlike, StreamLimit, Backlog}
+use Rattle.verdicts.specs.Prelude.{first_that_holds}
+use Rattle.verdicts.specs.declared.refusal.Refusal.{Refusal}
+use Rattle.verdicts.specs.declared.refusal.Refusal.TheVariants.{NoSession, SynData, SynInSession, NoAck, Gap, PastEnd, AckAhead, Unlike, StreamLimit, Backlog}
 use Rattle.gate_base.specs.declared.host.Host.{Host}
 use Rattle.gate_base.specs.declared.host.Host.TheVariants.{Client, Server}
 use Rattle.tcp_segments.specs.Prelude.{one_if}

@@ -6,8 +6,9 @@ ghost use Rattle.stream_model.specs.Refusals.{is_data, no_session, syn_data, ope
 
 use crate::numbers::{Offset, number_at, place_near};
 use dialogue::MOST_RECENT;
-use gate_base::{Host, Refusal};
+use gate_base::Host;
 use tcp_segments::Flags;
+use verdicts::Refusal;
 
 /// A stream has fewer octets than this, a limit of the gateway's own: 2^30, a quarter of the sequence numbers.
 pub const STREAM_LIMIT: u64 = 1_073_741_824;

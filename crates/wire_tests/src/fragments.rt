@@ -1,8 +1,9 @@
 use frag_join::{Joiner, Taken};
-use gate_base::{Event, LONGEST_DATAGRAM, Link, Moment, Refusal, SECOND, Side, put_u16};
+use gate_base::{Event, LONGEST_DATAGRAM, Link, Moment, SECOND, Side, put_u16};
 use inet_sum::sum;
 use std::alloc::{AllocError, Global};
 use std::test::Fail;
+use verdicts::Refusal;
 
 /// The last fragment of a datagram.
 const LAST: &[u8; 22] = b"\x45\0\0\x16\0\x01\0\x01\x40\x11\xe8\x26\x0a\0\0\x05\xc0\xa8\xc8\x01hi";

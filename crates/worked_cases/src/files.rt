@@ -1,8 +1,8 @@
 // Runs over real files.
 use crate::case::{is_part, words_of};
+use file_desk::FileDesk;
 use gate_base::read_number;
 use gate_command::carry_out;
-use gate_desk::FileDesk;
 use std::{fs, io};
 
 /// A device that takes nothing.

@@ -1,8 +1,8 @@
 -- What only proofs and private contracts need beside `Steps`.
 use Rattle.std.specs.Prelude.{◌≡◌, ◌≤◌, ℕ, Bool, nat_lt, List, [], ◌∷◌, length, Some, All}
 use Rattle.gate_base.specs.Prelude.{other}
-use Rattle.gate_base.specs.declared.refusal.Refusal.{Refusal}
-use Rattle.gate_base.specs.declared.refusal.Refusal.TheVariants.{RenamesFull, PoolEmpty}
+use Rattle.verdicts.specs.declared.refusal.Refusal.{Refusal}
+use Rattle.verdicts.specs.declared.refusal.Refusal.TheVariants.{RenamesFull, PoolEmpty}
 use Rattle.binding_table.specs.Prelude.{Bindings, free, needed}
 use Rattle.dialogue.specs.Prelude.{Entry}
 use Rattle.dns_messages.specs.Suits.{MessageSuits}

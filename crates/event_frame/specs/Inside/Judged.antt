@@ -1,8 +1,8 @@
 -- What only proofs and private contracts need beside `Judged`.
 use Rattle.std.specs.Prelude.{◌≡◌, Option, Some, None, Result, Ok, Err}
-use Rattle.gate_base.specs.Prelude.{first_that_holds}
-use Rattle.gate_base.specs.declared.refusal.Refusal.{Refusal}
-use Rattle.gate_base.specs.declared.refusal.Refusal.TheVariants as refusals
+use Rattle.verdicts.specs.Prelude.{first_that_holds}
+use Rattle.verdicts.specs.declared.refusal.Refusal.{Refusal}
+use Rattle.verdicts.specs.declared.refusal.Refusal.TheVariants as refusals
 use Rattle.ipv4_frames.specs.Ipv4.{Datagram}
 use Rattle.ipv4_frames.specs.declared.fault.IpFault.{IpFault}
 use Rattle.ipv4_frames.specs.declared.fault.IpFault.TheVariants.{NotIpv4, BadHeader, BadHeaderSum, Fragment, IpOptions}

@@ -1,7 +1,7 @@
 -- What only proofs and private contracts need beside `Given`.
 use Rattle.std.specs.Prelude.{Option, Some, None, Result, Ok, Err}
 use Rattle.gate_base.specs.declared.event.OutOfMemory.{OutOfMemory}
-use Rattle.gate_base.specs.declared.refusal.Refusal.{Refusal}
+use Rattle.verdicts.specs.declared.refusal.Refusal.{Refusal}
 use Rattle.event_state.specs.declared.taken.Taken.{Taken}
 use Rattle.event_state.specs.declared.taken.Taken.TheVariants.{Refused, Whole}
 

@@ -1,9 +1,10 @@
 use Rattle.std.proofs.Common.{◌≡◌, ◌++◌, Bool, true, false, cond, List, length, sym, ◌∙◌, ap, subst, map, not, nat_lt, is_none, Option, Some, None, IfSome}
 use Rattle.std.specs.List.{list_any}
 use Rattle.std.proofs.lemmas.Bool.{not-false, not-true}
-use Rattle.gate_base.specs.Prelude.{other, first_that_holds}
+use Rattle.gate_base.specs.Prelude.{other}
+use Rattle.verdicts.specs.Prelude.{first_that_holds}
 use Rattle.gate_base.specs.declared.address.Addr.{Addr}
-use Rattle.gate_base.specs.declared.refusal.Refusal.TheVariants.{UnitGrows}
+use Rattle.verdicts.specs.declared.refusal.Refusal.TheVariants.{UnitGrows}
 use Rattle.binding_table.specs.Prelude.{AreUsesOf, Use, free, needed}
 use Rattle.dialogue.specs.Prelude.{Entry, AreImages}
 use Rattle.dns_stream.specs.Prelude.{dns_units}

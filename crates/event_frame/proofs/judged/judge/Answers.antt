@@ -4,7 +4,8 @@ use Rattle.twice_translate.specs.Renamed.{datagram_of}
 use Rattle.event_frame.specs.Frames.{IsJudged}
 use Rattle.std.specs.Option.{option_or}
 use Rattle.std.proofs.lemmas.Result.{err_from_is_err_and}
-use Rattle.gate_base.specs.Prelude.{event_of, first_that_holds}
+use Rattle.gate_base.specs.Prelude.{event_of}
+use Rattle.verdicts.specs.Prelude.{first_that_holds}
 use Rattle.twice_translate.proofs.Accepted.{reads}
 use Rattle.gate_model.specs.Prelude.{datagram_in, header_tests, datagram_tests, transport_tests}
 use Rattle.event_frame.proofs.Judging.{is_judged}

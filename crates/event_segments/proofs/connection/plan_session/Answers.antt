@@ -1,7 +1,7 @@
 use Rattle.std.proofs.Common.{◌≡◌, ◌∙◌, [], ◌∷◌, Err, ap, sym, subst, refl}
-use Rattle.gate_base.specs.Prelude.{first_that_holds}
+use Rattle.verdicts.specs.Prelude.{first_that_holds}
 use Rattle.gate_base.proofs.Options.{none_there}
-use Rattle.gate_base.specs.declared.refusal.Refusal.TheVariants.{PoolEmpty}
+use Rattle.verdicts.specs.declared.refusal.Refusal.TheVariants.{PoolEmpty}
 use Rattle.binding_table.specs.Prelude.{Bindings}
 use Rattle.gate_model.proofs.ListsKept.{uses_are}
 use Rattle.gate_model.specs.Prelude.{addresses_in, uses_until, Tracked, host_on}

@@ -1,6 +1,6 @@
 use Rattle.std.proofs.Common.{map, string_bytes}
 use Rattle.run_setup.specs.Prelude.{command_of}
-use Rattle.gate_desk.specs.Untold.{told_by}
+use Rattle.file_desk.specs.Untold.{told_by}
 use Rattle.gate_command.proofs.Codes.{finished_code}
 use Rattle.gate_command.proofs.program.carry_out.Goals as goal
 

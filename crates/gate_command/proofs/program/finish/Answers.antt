@@ -1,6 +1,6 @@
 use Rattle.std.proofs.Common.{◌≡◌, ◌∙◌, ap, refl, inl, inr, subst}
 use Rattle.gate_desk.specs.Outside.{HasFailed}
-use Rattle.gate_desk.specs.Untold.{Files, told_by, all_dropped}
+use Rattle.file_desk.specs.Untold.{Files, told_by, all_dropped}
 use Rattle.run_setup.specs.Prelude.{code_of, TellsLine}
 use Rattle.run_setup.specs.declared.status.Status.TheVariants.{WriteFault}
 use Rattle.gate_command.proofs.Codes.{first_refused}

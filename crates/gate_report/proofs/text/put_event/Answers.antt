@@ -1,6 +1,7 @@
 use Rattle.std.proofs.Common.{◌≡◌, ◌++◌, ℕ, List, [], codes, decimal, drop, ap, ◌∙◌, append_assoc, arith}
 use Rattle.std.proofs.lemmas.List.{append-nil, drop_all}
-use Rattle.gate_base.specs.Prelude.{verdict_name, name_of}
+use Rattle.gate_base.specs.Prelude.{name_of}
+use Rattle.verdicts.specs.Prelude.{verdict_name}
 use Rattle.gate_report.specs.Lines.{event_text}
 use Rattle.gate_report.proofs.text.put_event.Goals as goal
 

@@ -1,5 +1,5 @@
 use Rattle.std.proofs.Common.{◌∙◌, Ok, ap, refl, subst, sym}
-use Rattle.gate_base.specs.Prelude.{first_that_holds}
+use Rattle.verdicts.specs.Prelude.{first_that_holds}
 use Rattle.event_frame.specs.Judged.{IsContentOf}
 use Rattle.gate_model.specs.Prelude.{kind_of, carried, address_tests, world_tests}
 use Rattle.event_payloads.specs.Prelude.{IsWayOf, way_tests}

@@ -1,5 +1,6 @@
 use Rattle.std.proofs.Common.{ap, refl, subst, sym}
-use Rattle.gate_base.specs.Prelude.{event_of, first_that_holds}
+use Rattle.gate_base.specs.Prelude.{event_of}
+use Rattle.verdicts.specs.Prelude.{first_that_holds}
 use Rattle.event_frame.specs.Frames.{IsJudged}
 use Rattle.gate_model.specs.Prelude.{datagram_in, kind_of, tests, address_tests, world_tests}
 use Rattle.event_segments.proofs.Stepping.{first_world, first_front}

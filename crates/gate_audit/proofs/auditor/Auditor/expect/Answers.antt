@@ -1,5 +1,6 @@
 use Rattle.std.proofs.Common.{◌≡◌, false, refl, ap, subst, sym, ◌∙◌}
-use Rattle.gate_base.specs.Prelude.{event_of, first_that_holds}
+use Rattle.gate_base.specs.Prelude.{event_of}
+use Rattle.verdicts.specs.Prelude.{first_that_holds}
 use Rattle.gate_model.specs.Prelude.{datagram_in, kind_of, KeepsListed, world_as, tests, World, at_moment}
 use Rattle.gate_model.proofs.ListsWorld.{moment_lists, next_lists}
 use Rattle.lawful_files.specs.Prelude.{IsSound, begun, Wanted}

@@ -1,0 +1,5 @@
+pub mod FileLaws
+pub mod Gathering
+pub mod Taken
+pub mod Unread
+mod Kept
