@@ -7,6 +7,7 @@ tools/seconds.py --table: prints what was written as the table of docs/GATE.md.
 tools/seconds.py --limit [MINUTES]: tells how many processor minutes what was written comes to. Ends with 1 where that is more than so many, 110 if none
 are given, or where some crate was not proved in that run."""
 import os
+import re
 import subprocess
 import sys
 import time
