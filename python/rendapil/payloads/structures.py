@@ -50,9 +50,9 @@ def at_place(payload: bytes, at: int, field: Field) -> Iterator[Find]:
 
 
 def all_behind(payload: bytes, pattern: re.Pattern[bytes], field: Field) -> Iterator[Find]:
-    """The addresses that stand behind each match."""
+    """The addresses that stand behind each match. Four letters are a word, and no address."""
     for count, one in enumerate(pattern.finditer(payload)):
-        if count < MOST:
+        if count < MOST and not payload[one.end() : one.end() + 4].isalpha():
             yield from at_place(payload, one.end(), field)
 
 
