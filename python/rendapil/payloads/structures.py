@@ -38,6 +38,7 @@ NODE = Field("the address of a node, to which others connect", BREAKS)
 INTERFACE = Field("an interface for multichannel: clients fall back on the first connection", TELLS)
 RPC_BOUND = Field("where the server of a domain is", BREAKS)
 PEERS_TOLD = Field("peers connect to the peers that are told", BREAKS)
+MATCHED = Field("a rule matches the address", TELLS)
 VIRTUAL = Field("the virtual address of a group of routers", TELLS)
 CERTIFIED = Field("a certificate is valid for the address", TELLS)
 SERVERS = Field("servers, to which players connect", BREAKS)
@@ -331,6 +332,14 @@ def hsrp(payload: bytes) -> Iterator[Find]:
         yield from at_place(payload, 26, VIRTUAL)
 
 
+def openflow(payload: bytes) -> Iterator[Find]:
+    """What rules match: in the fixed form of version 1.0, and as fields of later ones."""
+    if payload[:2] in (b"\x01\x0b", b"\x01\x0e"):
+        yield from at_place(payload, 36, MATCHED)
+        yield from at_place(payload, 40, MATCHED)
+    yield from all_behind(payload, re.compile(rb"\x80\0(?:[\x16\x18\x2c\x2e]\x04|[\x17\x19\x2d\x2f]\x08)"), MATCHED)
+
+
 def lisp(payload: bytes) -> Iterator[Find]:
     """Hosts and locators of a mapping, each behind its family (RFC 6830)."""
     return all_behind(payload, re.compile(rb"\0\0\0\x01"), ROUTE)
@@ -418,6 +427,7 @@ DECODERS: dict[str, Callable[[bytes], Iterator[Find]]] = {
     "Bitcoin": bitcoin,
     "HSRP": hsrp,
     "LISP": lisp,
+    "OpenFlow": openflow,
     "DNS over TLS": tls,
 }
 """What finds addresses in the messages of an application."""
