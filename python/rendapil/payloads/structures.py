@@ -334,9 +334,12 @@ def hsrp(payload: bytes) -> Iterator[Find]:
 
 def openflow(payload: bytes) -> Iterator[Find]:
     """What rules match: in the fixed form of version 1.0, and as fields of later ones."""
-    if payload[:2] in (b"\x01\x0b", b"\x01\x0e"):
-        yield from at_place(payload, 36, MATCHED)
-        yield from at_place(payload, 40, MATCHED)
+    at = 0
+    while payload[at : at + 1] == b"\x01" and at + 8 <= len(payload):
+        if payload[at + 1] in (11, 14):
+            yield from at_place(payload, at + 36, MATCHED)
+            yield from at_place(payload, at + 40, MATCHED)
+        at += max(8, int.from_bytes(payload[at + 2 : at + 4]))
     yield from all_behind(payload, re.compile(rb"\x80\0(?:[\x16\x18\x2c\x2e]\x04|[\x17\x19\x2d\x2f]\x08)"), MATCHED)
 
 
