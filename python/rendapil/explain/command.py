@@ -368,6 +368,11 @@ def explain(words: argparse.Namespace) -> None:
             print("\033[K", end="", file=sys.stderr, flush=True)
         if words.html and scan and changes:
             behind.enter_context(written(words.html, "w")).write(page.written(gathered, story, scan, changes))
+    tell_form(words, story, scan, changes, text)
+
+
+def tell_form(words: argparse.Namespace, story: Story, scan: "Scan | None", changes: "Changes | None", text: str) -> None:
+    """Writes new settings, or tells in the form that is asked for."""
     if words.new_settings:
         with written(words.new_settings, "w") as file:
             file.write(settings_with(text, worth_keeping(story)))
@@ -377,7 +382,7 @@ def explain(words: argparse.Namespace) -> None:
         tell_payloads(scan, changes)
     elif scan and changes and words.json:
         tell_json(story, scan, changes)
-    elif scan and changes and not (outputs or words.events):
+    elif scan and changes and not (words.html or words.pcapng or words.new_settings or words.events):
         tell(story, scan)
 
 

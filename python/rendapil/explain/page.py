@@ -160,6 +160,17 @@ class Page:
             said.append(f"{counted(changes.answers, 'DNS answer')} changed.")
         return said
 
+    def findings(self, run: Gathered, scan: Scan, changes: Changes) -> dict[str, Any]:
+        """What the page says of the run as a whole: the verdict, what breaks, who speaks with whom, names that changed, and what to do."""
+        payloads = told_rows(scan)
+        talks, talks_count = self.talks.rows()
+        return {
+            **{"payloads": payloads, "payloads_said": summary_of(scan, payloads), "verdict_said": self.verdict_of(run, payloads, changes)},
+            **{"of": self.of, "notes": self.notes, "pools_said": self.pools_said(run), "talks": talks, "talks_count": talks_count},
+            **{"zones": changes.rows()[:SHOWN_ZONES], "zones_count": len(changes.zones), "said_of": said_of},
+            **{"todo": self.todo_of, "texts": self.texts},
+        }
+
     def written(self, run: Gathered, story: Story, scan: Scan, changes: Changes) -> str:
         """The page."""
         from jinja2 import Environment, FileSystemLoader, StrictUndefined
@@ -178,8 +189,6 @@ class Page:
         most_used = sorted(used, key=lambda one: -one.uses)[:SHOWN_BINDINGS]
         axis = self.axes(run)[0][2]
         style, script = (self._part(room, name) for name in ("page.css", "page.js"))
-        payloads = told_rows(scan)
-        talks, talks_count = self.talks.rows()
         total, refused = sum(run.counts.values()), sum(count for _, count in reasons)
         return room.get_template("page.html").render(
             {
@@ -195,16 +204,7 @@ class Page:
                 "bindings_count": len(used) + story.left_out,
                 "refused": story.refusals.rows(SHOWN_REFUSED),
                 "refused_count": len(story.refusals.rows()),
-                **{"payloads": payloads, "payloads_said": summary_of(scan, payloads)},
-                **{"verdict_said": self.verdict_of(run, payloads, changes), "of": self.of, "notes": self.notes, "pools_said": self.pools_said(run)},
-                **{
-                    "talks": talks,
-                    "talks_count": talks_count,
-                    "zones": changes.rows()[:SHOWN_ZONES],
-                    "zones_count": len(changes.zones),
-                    "said_of": said_of,
-                },
-                **{"todo": self.todo_of, "texts": self.texts},
+                **self.findings(run, scan, changes),
                 "missed": story.missed + story.table.missed,
                 "sessions": run.sessions.shown,
                 **{"style": style[0], "style_hash": style[1], "script": script[0], "script_hash": script[1]},

@@ -116,6 +116,7 @@ APPLICATIONS = [
     Application("Ethereum", (), (30303,), BREAKS, "pings and neighbours tell where peers are", "peers in one realm"),
     Application("CAPWAP", (), (5246, 5247), BREAKS, "a controller tells where access points connect", "controllers and access points in one realm"),
     Application("AJP", (8009,), (), TELLS, "requests tell the client's address and the host", "nothing"),
+    Application("OpenFlow", (6633, 6653), (), TELLS, "rules match addresses", "switches and their controller in one realm"),
     Application("talk", (), (517, 518), BREAKS, "invitations tell where to connect", "another way to talk"),
     Application("ICP", (), (3130,), TELLS, "requests tell the client's address", "nothing"),
     Application("Git, Subversion", (9418, 3690), (), TELLS, "requests name the server", "nothing, or names"),

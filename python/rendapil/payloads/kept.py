@@ -21,7 +21,7 @@ ITSELF, HOST, PRIVATE, PEER, ALIAS, PEER_OWN, FAR = ROLES = ("sender", "host", "
 or the same two by the address that they have in their own realm. The gravest come first."""
 
 SURE, LIKELY, MAYBE = "sure", "likely", "maybe"
-RARE = 0.01
+RARE = 0.001
 """Where chance gives fewer finds than this, a single find counts."""
 
 WEIGHTS = [BREAKS, UNSURE, TELLS, HIDDEN, COPES]

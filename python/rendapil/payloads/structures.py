@@ -38,6 +38,7 @@ NODE = Field("the address of a node, to which others connect", BREAKS)
 INTERFACE = Field("an interface for multichannel: clients fall back on the first connection", TELLS)
 RPC_BOUND = Field("where the server of a domain is", BREAKS)
 PEERS_TOLD = Field("peers connect to the peers that are told", BREAKS)
+MATCHED = Field("a rule matches the address", TELLS)
 VIRTUAL = Field("the virtual address of a group of routers", TELLS)
 CERTIFIED = Field("a certificate is valid for the address", TELLS)
 SERVERS = Field("servers, to which players connect", BREAKS)
@@ -50,9 +51,9 @@ def at_place(payload: bytes, at: int, field: Field) -> Iterator[Find]:
 
 
 def all_behind(payload: bytes, pattern: re.Pattern[bytes], field: Field) -> Iterator[Find]:
-    """The addresses that stand behind each match."""
+    """The addresses that stand behind each match. Four letters are a word, and no address."""
     for count, one in enumerate(pattern.finditer(payload)):
-        if count < MOST:
+        if count < MOST and not payload[one.end() : one.end() + 4].isalpha():
             yield from at_place(payload, one.end(), field)
 
 
@@ -331,6 +332,17 @@ def hsrp(payload: bytes) -> Iterator[Find]:
         yield from at_place(payload, 26, VIRTUAL)
 
 
+def openflow(payload: bytes) -> Iterator[Find]:
+    """What rules match: in the fixed form of version 1.0, and as fields of later ones."""
+    at = 0
+    while payload[at : at + 1] == b"\x01" and at + 8 <= len(payload):
+        if payload[at + 1] in (11, 14):
+            yield from at_place(payload, at + 36, MATCHED)
+            yield from at_place(payload, at + 40, MATCHED)
+        at += max(8, int.from_bytes(payload[at + 2 : at + 4]))
+    yield from all_behind(payload, re.compile(rb"\x80\0(?:[\x16\x18\x2c\x2e]\x04|[\x17\x19\x2d\x2f]\x08)"), MATCHED)
+
+
 def lisp(payload: bytes) -> Iterator[Find]:
     """Hosts and locators of a mapping, each behind its family (RFC 6830)."""
     return all_behind(payload, re.compile(rb"\0\0\0\x01"), ROUTE)
@@ -418,6 +430,7 @@ DECODERS: dict[str, Callable[[bytes], Iterator[Find]]] = {
     "Bitcoin": bitcoin,
     "HSRP": hsrp,
     "LISP": lisp,
+    "OpenFlow": openflow,
     "DNS over TLS": tls,
 }
 """What finds addresses in the messages of an application."""
