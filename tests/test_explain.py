@@ -479,6 +479,18 @@ class Lines(InRoom):
         self.assertEqual((status, [json.loads(line)["event"] for line in text.splitlines()]), (0, [1, 2, 3, 4, 5]))
         self.assertTrue(text.isascii() and all(line.isprintable() for line in text.splitlines()))
 
+    def test_long_events(self) -> None:
+        """What a frame says has a bound, however long it is in words."""
+        name = b"\x3f" + b"\x01" * 63 + b"\x3f" + b"\x02" * 63 + b"\0"
+        records = name + struct.pack(">HHIH", 16, 1, 0, 0) + (b"\xc0\x0c" + struct.pack(">HHIH", 16, 1, 0, 0)) * 38
+        answer = struct.pack(">HHHH", 53, 4000, 0, 0) + struct.pack(">6H", 7, 0x8180, 0, 39, 0, 0) + records
+        files = write_run(self.room, [Happened(0, bindings.UDP, answer, answer[:-6] + b"\0\0\0\x09\0\0")])
+        status, text = said(*EXPLAIN, "--events", *files)
+        line = json.loads(text)
+        self.assertEqual(status, 0)
+        self.assertRegex(line["lines"]["came"][-1], r"^and 3\d lines more$")
+        self.assertLess(len(text), 12_000)
+
     @unittest.skipUnless(shutil.which("tshark"), "there is no tshark")
     def test_pcapng(self) -> None:
         """Wireshark reads all frames in the run's order, with their interfaces and comments, hostile ones too."""
