@@ -1,6 +1,7 @@
 """What the command says."""
 import os
 import shutil
+import signal
 import struct
 import subprocess
 import tempfile
@@ -248,6 +249,19 @@ class Script(unittest.TestCase):
             self.assertEqual((code, text[: len(version)]), (0, version))
         shutil.copy(f"{self.top}/rendapil", f"{self.room}/alone")
         self.assertEqual(said(f"{self.room}/alone", "--version")[0], 70)
+
+    def test_interrupted_alone(self) -> None:
+        """SIGINT to the command without its group ends the program too, and then the command by that signal."""
+        self.write(self.program, '#!/bin/sh\necho $$ >"$0.started"\nexec sleep 60\n')
+        self.note()
+        with subprocess.Popen([f"{self.top}/rendapil", *self.run_words()], cwd=self.room, stderr=subprocess.PIPE, start_new_session=True) as process:
+            while not os.path.exists(f"{self.program}.started") or not Path(f"{self.program}.started").read_text("ascii"):
+                time.sleep(0.05)
+            time.sleep(0.2)
+            process.send_signal(signal.SIGINT)
+            said_last = process.communicate(timeout=20)[1]
+        self.assertEqual(process.returncode, -signal.SIGINT)
+        self.assertIn(b"signal 2 ended the program", said_last)
 
     def test_quiet(self) -> None:
         """It leaves out what isn't an error."""

@@ -48,6 +48,7 @@ def called(program: Path, words: Words) -> tuple[int, str]:
     tie = ["setpriv", "--pdeathsig", "TERM"] if shutil.which("setpriv") else []
     # A limit on the size of a file, which Python ignores, is a failed write for the program, which tells it.
     process = subprocess.Popen([*tie, program, *words.words], stderr=subprocess.PIPE, restore_signals=False, pass_fds=words.inherited)
+    signal.signal(signal.SIGINT, lambda *_: process.send_signal(signal.SIGINT))  # the program ends, and then this command
     if is_watched(words):
         wait_and_tell(process, words.words[2], words.words[3])
     line = os.fsdecode(process.communicate()[1]).rstrip("\n")
@@ -56,7 +57,6 @@ def called(program: Path, words: Words) -> tuple[int, str]:
 
 def run_program(program: Path, words: Words) -> int:
     """Runs the program, and says what its line leaves open. Ends as it ended."""
-    signal.signal(signal.SIGINT, lambda *_: None)  # the program ends, and then this command
     given = words.given
     checked = None if words.command == "make" else warnings(words.words[1])
     status, line = called(program, words)
