@@ -226,11 +226,14 @@ def main(words: list[str]) -> int:
     open_streams()
     signal.signal(signal.SIGPIPE, signal.SIG_DFL)
     try:
-        return done(without_options(words))
+        status = done(without_options(words))
+        sys.stdout.flush()
+        return status
     except Stop as stop:
         return stop.tell()
     except KeyboardInterrupt:
         return 130
     except OSError as error:
-        say(f"{shown(str(error.filename or ''))}: {error.strerror}")
+        sys.stdout = open(os.devnull, "w")  # nothing more goes there
+        say(f"{shown(str(error.filename or 'standard output'))}: {error.strerror}")
         return CANNOT
