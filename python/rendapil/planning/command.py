@@ -86,7 +86,7 @@ class Plan:
         for side, (block, first, last) in enumerate(self.pools):
             firm = self.firms[1 - side]
             yield f"# Hosts of the {SIDES[1 - side]} realm are known on the {SIDES[side]} by these addresses: route {block} to the gateway there. {plural(len(firm.hosts), 'host')} spoke,"
-            yield f"# of which {firm.most:,} would have had an alias at one time, had all of them spoken over the gateway, and {len(firm.servers()):,} serve others."
+            yield f"# of which {firm.most:,} would have had an alias at one time, had all of them spoken over the gateway, and {len(firm.servers()):,} serve{'s' if len(firm.servers()) == 1 else ''} others."
             yield pool_table(side, first, last)
         for side, address, alias, host in self.statics:
             services = list(services_of(host))
@@ -115,7 +115,7 @@ def tell_firms(firms: list[Firm]) -> None:
         span = f", {second_of(firm.first // 10**9).replace('T', ' ')} to {second_of(firm.last // 10**9).replace('T', ' ')} UTC" if firm.first else ""
         spoke = "spoke, or stand in a list" if any(host.is_listed for host in firm.hosts.values()) else "spoke"
         print(
-            f"{SIDES[firm.side]}: {plural(len(firm.hosts), 'host')} of its own {spoke}, {len(firm.servers()):,} of them serve others. {plural(firm.frames, 'frame')}{span}"
+            f"{SIDES[firm.side]}: {plural(len(firm.hosts), 'host')} of its own {spoke}, {len(firm.servers()):,} of them serve{'s' if len(firm.servers()) == 1 else ''} others. {plural(firm.frames, 'frame')}{span}"
         )
         if not firm.hosts:
             print(f"  no address of this capture is private: say which are the firm's own by --{SIDES[firm.side]} BLOCK")
