@@ -23,6 +23,8 @@ LOOKED_FOR = 5
 
 def why_not(path: str, mode: str) -> str:
     """Why the system doesn't open a file. It isn't emptied."""
+    if path == "-":  # no name of a file
+        return "standard output is closed, or is another one of these files"
     if is_pipe(path):
         return ""  # it might wait
     try:
