@@ -476,6 +476,12 @@ class Words(unittest.TestCase):
                 self.assertEqual(said(*words)[0], 2, words)
             self.assertIn("rendapil compare:", errors.getvalue())
 
+    def test_kept_over_what_is_read(self) -> None:
+        """The files of the reference never go to the folder of what is read."""
+        with contextlib.redirect_stderr(io.StringIO()) as errors:
+            self.assertEqual(said(SETTINGS, *CAME, *WENT, "--keep", os.path.dirname(CAME[0]))[0], 2)
+        self.assertIn("is in the folder of --keep", errors.getvalue())
+
     def test_command(self) -> None:
         """The command knows it, and gives what it is asked for."""
         done = subprocess.run([*COMPARE, SETTINGS, *CAME, *WENT], stdout=subprocess.PIPE, text=True, check=False)

@@ -143,6 +143,15 @@ class Planned(unittest.TestCase):
         self.assertEqual((len(calls), {call.client for call in calls}, {call.server for call in calls}), (60_000, set(range(10_000)), set(range(100))))
 
     @unittest.skipUnless(HAS_JINJA, "there is no python3-jinja2")
+    def test_page_over_other_files(self) -> None:
+        """A page is never written over what is read, nor over the settings."""
+        for page, why in ((self.right, "is a file that is read, and would be overwritten"), (self.settings, "is to have the settings, and the page too")):
+            status, text = self.plan(self.left, self.right, "--html", page)
+            self.assertEqual((status, why in text), (1, True), text)
+        self.assertEqual(Path(self.right).read_bytes(), capture(self.south))
+        self.assertFalse(os.path.exists(self.settings))
+
+    @unittest.skipUnless(HAS_JINJA, "there is no python3-jinja2")
     def test_page(self) -> None:
         """It has both names of each server, a cell for each host, and nothing of a capture goes in unescaped."""
         page = f"{self.room}/page.html"

@@ -101,13 +101,15 @@ def of_pcap(file: BinaryIO, order: str, unit: int, head: bytes) -> Iterator[Reco
     record, moment, number = struct.Struct(order + "IIII"), 0, 0
     while len(begin := file.read(16)) == 16:
         seconds, fraction, size, length = record.unpack(begin)
-        if size > MOST:
+        if size > MOST or len(octets := file.read(size)) < size:
             tell_damage(number)
             return
         stamp = seconds * 10**9 + fraction * unit
         moment = stamp if stamp < MOMENTS else moment
         number += 1
-        yield Record(moment, link, file.read(size), length)
+        yield Record(moment, link, octets, length)
+    if begin:
+        tell_damage(number)
 
 
 class Bounded:

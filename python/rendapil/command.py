@@ -61,10 +61,10 @@ Status: 0 done, 3 the settings have a fault, 4 a capture has one, 5 to 7 a file 
 Says whether a gateway may have written LEFT_GIVEN, RIGHT_GIVEN and REPORT_GIVEN for these inputs: lawful (status 0), or unlawful with the first
 frame that is wrong (status 9). REPORT may be - for standard output, and one input - for standard input. The other statuses are those of run.""",
     "make": """usage: rendapil make NUMBER COUNT REPORT
-Runs the gateway over COUNT frames (1 to 100000) that it makes from NUMBER (0 to 4294967295) in memory. Writes the last line of the report alone,
-by which two builds can be compared.""",
+Runs the gateway over traffic that it makes in memory from NUMBER (0 to 4294967295). COUNT (1 to 100000) says how much: mostly some more frames. Writes
+the last line of the report alone, by which two builds can be compared.""",
     "test": """usage: rendapil test
-Runs the worked cases with the program, and the tests of the tools. Needs Python 3.11. The last line is 'N passed, M failed'.""",
+Runs the worked cases with the program, and the tests of the tools. Needs Python 3.11. The last line is 'N passed, M failed, K skipped'.""",
     "build": """usage: rendapil build
 Builds the program from the code of this checkout in a minute or two, without checking its proofs. Says whether it is the program that PROVED-PROGRAM
 names as proved, and the file under prebuilt/. Needs rt, the tool of Rattle.""",
@@ -226,11 +226,14 @@ def main(words: list[str]) -> int:
     open_streams()
     signal.signal(signal.SIGPIPE, signal.SIG_DFL)
     try:
-        return done(without_options(words))
+        status = done(without_options(words))
+        sys.stdout.flush()
+        return status
     except Stop as stop:
         return stop.tell()
     except KeyboardInterrupt:
         return 130
     except OSError as error:
-        say(f"{shown(str(error.filename or ''))}: {error.strerror}")
+        sys.stdout = open(os.devnull, "w")  # nothing more goes there
+        say(f"{shown(str(error.filename or 'standard output'))}: {error.strerror}")
         return CANNOT

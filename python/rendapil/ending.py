@@ -1,7 +1,7 @@
 """How a tool ends: with a status, or with one line that says why not."""
 import os
 import sys
-from collections.abc import Callable
+from collections.abc import Callable, Iterable
 from contextlib import suppress
 from typing import NoReturn
 
@@ -36,11 +36,23 @@ def ended(name: str, work: Callable[[], int], status: int = 1, file: str = "stan
         fail(name, unforeseen(error), status)
 
 
+def refuse_overwriting(outputs: Iterable[str], inputs: Iterable[str]) -> None:
+    """Ends where a file that is to be written is one that is read."""
+    read = list(inputs)
+    for output in outputs:
+        if os.path.isfile(output) and any(os.path.exists(one) and os.path.samefile(output, one) for one in read):
+            raise Fault(f"{shown(output)} is a file that is read, and would be overwritten")
+
+
 def put_in_place(path: str, text: str) -> None:
     """Writes a file whole, or not at all."""
     if os.path.exists(path) and not os.path.isfile(path):  # a device or a pipe
-        with open(path, "w", encoding="utf-8") as file:
-            file.write(text)
+        try:
+            with open(path, "w", encoding="utf-8") as file:
+                file.write(text)
+        except OSError as error:
+            error.filename = path
+            raise
         return
     new = f"{path}.new"
     try:

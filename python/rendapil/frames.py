@@ -133,6 +133,8 @@ SPOKEN = (FTP_PORT.to_bytes(2), DNS_PORT.to_bytes(2))
 
 def spoken(datagram: bytes) -> list[str]:
     """What a datagram says in words, if it is of an FTP control connection or of DNS over UDP."""
+    if len(datagram) < 20:  # of an outgoing capture that isn't as the gateway left it
+        return []
     head = (datagram[0] & 15) * 4
     if not (datagram[head : head + 2] in SPOKEN or datagram[head + 2 : head + 4] in SPOKEN) or int.from_bytes(datagram[6:8]) & 0x3FFF:
         return []

@@ -4,6 +4,7 @@ import os
 import re
 import shlex
 import shutil
+import stat
 import subprocess
 import sys
 from collections import Counter
@@ -22,6 +23,8 @@ LOOKED_FOR = 5
 
 def why_not(path: str, mode: str) -> str:
     """Why the system doesn't open a file. It isn't emptied."""
+    if path == "-":  # no name of a file
+        return "standard output is closed, or is another one of these files"
     if is_pipe(path):
         return ""  # it might wait
     try:
@@ -33,12 +36,13 @@ def why_not(path: str, mode: str) -> str:
 
 def is_pipe(path: str) -> bool:
     """Whether a file is a pipe."""
-    return os.path.exists(path) and not os.path.isfile(path) and not os.path.isdir(path) and oct(os.stat(path).st_mode)[-6:-4] == "01"
+    return os.path.exists(path) and stat.S_ISFIFO(os.stat(path).st_mode)
 
 
 def why_full(path: str) -> str:
     """Why a file takes no more, as far as that shows."""
-    if path == "-" or is_pipe(path):
+    path = "/dev/stdout" if path == "-" else path
+    if is_pipe(path) or not os.path.exists(path):
         return "it was closed by its reader"
     if os.path.isfile(path):
         free = shutil.disk_usage(path).free

@@ -11,7 +11,7 @@ from rendapil import sayings
 from rendapil.build import have_program
 from rendapil.outputs import Words
 from rendapil.progress import wait_and_tell
-from rendapil.reasons import slot_of, tell_by, tell_end, tell_more
+from rendapil.reasons import is_pipe, slot_of, tell_by, tell_end, tell_more
 from rendapil.sayings import say, shown
 
 SLOTS = {
@@ -65,7 +65,7 @@ def run_program(program: Path, words: Words) -> int:
         checked.join()
     if status != 0:
         words.remove_unwritten()
-    if words.command == "run" and line == "write failed: report" and words.words[4:] == ["/dev/null", "/dev/null", "-"]:
+    if words.command == "run" and line == "write failed: report" and words.words[4:] == ["/dev/null", "/dev/null", "-"] and is_pipe("/dev/stdout"):
         return status  # nothing is lost
     if line:
         print(line, file=sys.stderr, flush=True)

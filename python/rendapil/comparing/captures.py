@@ -4,6 +4,7 @@ import copy
 import heapq
 import os
 import struct
+import sys
 from array import array
 from collections import Counter
 from collections.abc import Callable, Iterable, Iterator
@@ -11,10 +12,10 @@ from dataclasses import dataclass, field
 
 from rendapil.any_capture import IN, LOCAL, OUT, UNKNOWN, Record, datagram_in, with_length
 from rendapil.bindings import SECOND, SIDES, TCP, UDP, Blocks, pool_of
-from rendapil.files import ETHERNET, bare_head, record_head
+from rendapil.files import ETHERNET, bare_head, record_head, shown
 from rendapil.packet import ICMP, Packet, header_sum
 from rendapil.progress import Progress
-from rendapil.readers import records
+from rendapil.readers import Damaged, records, whole_records
 
 FOUR = struct.Struct(">4H")
 """The addresses of a datagram."""
@@ -71,6 +72,16 @@ class Realm:
 
 
 # Bare datagrams.
+
+
+def frames_of(path: str) -> Iterator[Record]:
+    """The frames of a capture. What is wrong behind the last one is told."""
+    number = 0
+    try:
+        for number, record in enumerate(whole_records(path), 1):
+            yield record
+    except Damaged as error:
+        print(f"rendapil compare: {shown(path)} is damaged behind frame {number}: {error}", file=sys.stderr)
 
 
 def bare(record: Record) -> tuple[bytes, str]:
@@ -165,14 +176,14 @@ class Links:
 
     def read_way(self, side: int, way: int, path: str) -> None:
         """Takes a file in which all frames go one way."""
-        self._take(side, path, records(path), way)
+        self._take(side, path, frames_of(path), way)
 
     def read_both(self, side: int, path: str, interface: str = "") -> None:
         """Takes a file, or an interface of it, in which frames go both ways."""
         realm = self.realms[side]
         if not realm.macs:
             realm.find_macs(one for one in records(path) if not interface or one.interface == interface)
-        self._take(side, path, (one for one in records(path)), UNKNOWN, interface)
+        self._take(side, path, frames_of(path), UNKNOWN, interface)
 
     def _take(self, side: int, path: str, frames: Iterable[Record], only: int, interface: str = "") -> None:
         """Takes the frames of a file: of one way, or of both with `only` unknown."""

@@ -19,7 +19,7 @@ from rendapil.comparing.causes import BY_RIGHT, DIFFERENT, UNSURE, Group, Groups
 from rendapil.comparing.judge import Judge, Options, delays_of
 from rendapil.comparing.match import Match
 from rendapil.comparing.ports import undo_ports
-from rendapil.ending import ended, put_in_place
+from rendapil.ending import ended, put_in_place, refuse_overwriting
 from rendapil.files import shown
 from rendapil.frames import time_of
 from rendapil.other_python import has
@@ -197,10 +197,13 @@ def tell_json(links: Links, learnt: Learnt, match: Match, groups: Groups, apart:
 
 
 @contextlib.contextmanager
-def folder(kept: str | None) -> Iterator[str]:
-    """A folder for the files of the reference: one that is kept, or not."""
+def folder(kept: str | None, inputs: list[str]) -> Iterator[str]:
+    """A folder for the files of the reference: one that is kept, or not. What is read is in another one."""
     if kept:
         os.makedirs(kept, exist_ok=True)
+        for one in inputs:
+            if os.path.samefile(os.path.dirname(one) or ".", kept):
+                raise Fault(f"{shown(one)} is in the folder of --keep, where it might be overwritten: give another folder")
         yield kept
     else:
         with tempfile.TemporaryDirectory(prefix="rendapil-") as room:
@@ -270,8 +273,10 @@ def compare(words: argparse.Namespace) -> int:
     """Compares, and tells. 1 where something differs."""
     if words.html and not has("jinja2"):
         raise Fault("--html needs jinja2: apt-get install python3-jinja2")
+    inputs = [words.settings, *words.captures]
+    refuse_overwriting([words.html] if words.html else [], inputs)
     settings, _ = document_of(words.settings)
-    with folder(words.keep) as room:
+    with folder(words.keep, inputs) as room:
         links = read_links(words, settings, room)
         clock = clock_of(links) if words.clocks is None else Clock(0, round(words.clocks * SECOND))
         if clock:

@@ -140,10 +140,14 @@ class Page:
         total, passed = sum(run.counts.values()), run.counts["pass"]
         reasons = [(name, count) for name, count in run.counts.most_common() if name not in GROUPS]
         refused = sum(count for _, count in reasons)
-        held = f", {run.counts['held']:,} were held as fragments" if run.counts["held"] else ""
+        held = f", {run.counts['held']:,} {'was' if run.counts['held'] == 1 else 'were'} held as fragments" if run.counts["held"] else ""
         said = [
             f"{passed:,} of {counted(total, 'frame')} passed{held}"
-            + (f", and {refused:,} were refused, most as {reasons[0][0]}." if refused else ", and none was refused.")
+            + (
+                f", and {refused:,} {'was' if refused == 1 else 'were'} refused, {'most as ' if len(reasons) > 1 else ''}{reasons[0][0]}."
+                if refused
+                else ", and none was refused."
+            )
         ]
         breaking = [row for row in payloads if row.weight == BREAKS and row.sure != MAYBE]
         unsure = [row for row in payloads if row.weight == UNSURE and row.sure != MAYBE]

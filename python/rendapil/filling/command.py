@@ -4,13 +4,14 @@ import argparse
 import os
 import sys
 from collections import Counter
+from collections.abc import Iterator
 
 from rendapil.any_capture import RAW, Record, datagram_in, with_length
-from rendapil.comparing.captures import records
 from rendapil.ending import ended
 from rendapil.explain.command import written
 from rendapil.files import ETHERNET, RAW_IP, bare_head, record_head, shown
 from rendapil.packet import Packet
+from rendapil.readers import Damaged, whole_records
 from rendapil.sayings import Fault
 from rendapil.trying.two_realms import fill
 
@@ -28,6 +29,16 @@ def filled(record: Record) -> tuple[bytes, str]:
     return record.octets[: len(record.octets) - len(datagram)] + bytes(packet.octets), "filled"
 
 
+def frames_of(path: str) -> Iterator[Record]:
+    """The frames of a capture. What is wrong behind the last one is told."""
+    number = 0
+    try:
+        for number, record in enumerate(whole_records(path), 1):
+            yield record
+    except Damaged as error:
+        print(f"rendapil fill: {shown(path)} is damaged behind frame {number}: {error}", file=sys.stderr)
+
+
 def fill_capture(words: argparse.Namespace) -> int:
     """Fills up a capture, and tells. The status."""
     if os.path.exists(words.new) and os.path.exists(words.capture) and os.path.samefile(words.new, words.capture):
@@ -35,7 +46,7 @@ def fill_capture(words: argparse.Namespace) -> int:
     counts: Counter[str] = Counter()
     link = None
     with written(words.new, "wb") as file:
-        for record in records(words.capture):
+        for record in frames_of(words.capture):
             if link is None:
                 link = RAW_IP if record.link in RAW else record.link
                 file.write(bare_head()[:20] + link.to_bytes(4, "little"))

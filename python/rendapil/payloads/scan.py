@@ -519,7 +519,9 @@ def refused_row(protocol: int, count: int) -> Told:
 def summary_of(scan: Scan, rows: list[Told]) -> str:
     """How much was looked at, and of how many applications nothing is told."""
     looked = f"{plural(scan.scanned, 'payload')} of {plural(len(scan.apps), 'application')} were looked at"
-    return f"{looked}. Nothing is told of {len(scan.apps) - len(rows):,} of them" if rows else f"{looked}, and none was found"
+    if not rows:
+        return f"{looked}, and none was found"
+    return f"{looked}. Nothing is told of {len(scan.apps) - len(rows):,} of them" if len(scan.apps) > len(rows) else looked
 
 
 def lines_of(scan: Scan) -> Iterator[str]:

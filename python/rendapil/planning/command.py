@@ -11,7 +11,7 @@ from ipaddress import IPv4Address, IPv4Network
 
 from rendapil.any_capture import Record
 from rendapil.bindings import SIDES
-from rendapil.ending import ended, fail, put_in_place
+from rendapil.ending import ended, fail, put_in_place, refuse_overwriting
 from rendapil.files import FORMS, shown
 from rendapil.frames import second_of
 from rendapil.inputs import files_of
@@ -86,7 +86,7 @@ class Plan:
         for side, (block, first, last) in enumerate(self.pools):
             firm = self.firms[1 - side]
             yield f"# Hosts of the {SIDES[1 - side]} realm are known on the {SIDES[side]} by these addresses: route {block} to the gateway there. {plural(len(firm.hosts), 'host')} spoke,"
-            yield f"# of which {firm.most:,} would have had an alias at one time, had all of them spoken over the gateway, and {len(firm.servers()):,} serve others."
+            yield f"# of which {firm.most:,} would have had an alias at one time, had all of them spoken over the gateway, and {len(firm.servers()):,} serve{'s' if len(firm.servers()) == 1 else ''} others."
             yield pool_table(side, first, last)
         for side, address, alias, host in self.statics:
             services = list(services_of(host))
@@ -115,7 +115,7 @@ def tell_firms(firms: list[Firm]) -> None:
         span = f", {second_of(firm.first // 10**9).replace('T', ' ')} to {second_of(firm.last // 10**9).replace('T', ' ')} UTC" if firm.first else ""
         spoke = "spoke, or stand in a list" if any(host.is_listed for host in firm.hosts.values()) else "spoke"
         print(
-            f"{SIDES[firm.side]}: {plural(len(firm.hosts), 'host')} of its own {spoke}, {len(firm.servers()):,} of them serve others. {plural(firm.frames, 'frame')}{span}"
+            f"{SIDES[firm.side]}: {plural(len(firm.hosts), 'host')} of its own {spoke}, {len(firm.servers()):,} of them serve{'s' if len(firm.servers()) == 1 else ''} others. {plural(firm.frames, 'frame')}{span}"
         )
         if not firm.hosts:
             print(f"  no address of this capture is private: say which are the firm's own by --{SIDES[firm.side]} BLOCK")
@@ -267,12 +267,20 @@ def look(firm: Firm, paths: list[str]) -> None:
         raise Fault(f"the {SIDES[firm.side]} side has no host with an IPv4 address: {', '.join(map(shown, paths))}")
 
 
-def refuse_overwriting(path: str) -> None:
+def refuse_foreign(path: str) -> None:
     """Ends where the settings would be written over a file of somebody else."""
     if os.path.exists(path) and not os.path.samefile(path, "/dev/null") and os.path.isfile(path):
         with open(path, "rb") as file:
             if not file.read(len(WRITTEN)).startswith(WRITTEN.encode()):
                 raise Fault(f"{shown(path)} is there and wasn't written by plan: give another name by --out")
+
+
+def refuse_page(words: argparse.Namespace, paths: list[str]) -> None:
+    """Ends where the page would be written over the settings, or over what is read."""
+    if words.html and (os.path.isfile(words.html) or not os.path.exists(words.html)):
+        if os.path.realpath(words.html) == os.path.realpath(words.out):
+            raise Fault(f"{shown(words.html)} is to have the settings, and the page too: give another name by --html")
+        refuse_overwriting([words.html], [file for path in paths for file in files_in(path)])
 
 
 def refuse_one_side_twice(left: list[str], right: list[str]) -> None:
@@ -307,10 +315,11 @@ def plan_it(words: argparse.Namespace) -> int:
         from rendapil.planning.page import refuse_without_jinja
 
         refuse_without_jinja()
-    refuse_overwriting(words.out)
+    refuse_foreign(words.out)
     sides = [words_of(more, first) for more, first in ((words.left, words.left_file), (words.right, words.right_file))]
     (_, left), (_, right) = sides
     refuse_one_side_twice(left, right)
+    refuse_page(words, left + right)
     firms = [Firm(side, blocks) for side, (blocks, _) in enumerate(sides)]
     for firm, (_, paths) in zip(firms, sides):
         look(firm, paths)

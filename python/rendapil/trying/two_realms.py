@@ -3,6 +3,7 @@
 A frame stands in the capture of its sender's realm, with its stamp, source and payload. Its destination becomes the alias of the receiver. In FTP
 control connections and DNS over TCP the receiver's acknowledgements are moved to what the gateway will have sent it, since a receiver acknowledges
 that. Nothing else of what hosts would have done otherwise behind a gateway is known."""
+import argparse
 import struct
 from collections import Counter
 from collections.abc import Iterable, Iterator
@@ -12,7 +13,7 @@ from ipaddress import IPv4Address, IPv4Network, collapse_addresses
 
 from rendapil.any_capture import Record, whole_of, why_none
 from rendapil.bindings import CHANGED, DNS_PORT, FTP_PORT, SIDES, SYN, TCP, UDP, Binding, Bindings, named_in
-from rendapil.files import RAW_IP, bare_head, record_head
+from rendapil.files import RAW_IP, bare_head, record_head, shown
 from rendapil.packet import ICMP, Packet, is_host
 from rendapil.settings_text import pool_table, same_line, static_table
 from rendapil.streams import TRACKED
@@ -46,7 +47,10 @@ class Host:
 
 def block_of(text: str) -> IPv4Network:
     """A block of addresses, by any address of it."""
-    return IPv4Network(text, strict=False)
+    try:
+        return IPv4Network(text, strict=False)
+    except ValueError:
+        raise argparse.ArgumentTypeError(f"{shown(text)} is no block of IPv4 addresses, such as 10.1.0.0/16") from None
 
 
 def fill(packet: Packet) -> bool:
