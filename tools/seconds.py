@@ -81,7 +81,7 @@ def unchanged() -> list[str]:
     """The crates whose code, definitions and proofs are as in the commit of the written figures."""
     revision = git("log", "-1", "--format=%H", "--", str(WRITTEN))
     parts = (path.split("/") for path in git("diff", "--name-only", "--no-renames", *revision, "--", "crates"))
-    changed = {part[1] for part in parts if part[2] in ("src", "specs", "proofs")}
+    changed = {crate for _, crate, *inner in parts if inner and inner[0] in ("src", "specs", "proofs")}
     return [crate for crate in lines_of(TOP / "crates.txt") if crate not in changed]
 
 
