@@ -216,6 +216,16 @@ class Explain(InRoom):
             self.assertEqual((status, text.count("\n"), line in text), (1, 1, True), text)
             self.assertTrue(text.startswith("rendapil explain: these aren't files of one run: "))
 
+    def test_frames_of_no_gateway(self) -> None:
+        """A frame without a datagram neither passes a gateway nor is sent by one."""
+        for name, does in (("left.pcap", "passes"), ("right-out.pcap", "sends")):
+            paths = write_run(self.room, [Happened(0, 17, b"came", b"went")])
+            with open(f"{self.room}/{name}", "r+b") as file:
+                file.seek(24 + 16)
+                file.write(b"\x65")
+            status, text = said(*EXPLAIN, *paths)
+            self.assertEqual((status, f"{name}, has a frame that no gateway {does}" in text), (1, True), text)
+
     def test_where_it_writes(self) -> None:
         """A reader that has enough ends it quietly; a full disk is told; Python 3.10 is told."""
         with subprocess.Popen([*EXPLAIN, "--events", *CASE], stdout=subprocess.PIPE, stderr=subprocess.PIPE) as command:

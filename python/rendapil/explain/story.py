@@ -161,7 +161,10 @@ class Story:
         images = [datagram_of(one.octets, one.link) for one in went]
         if not all(images):
             raise ValueError(f"event {number}: {names[3 - side]} has a frame that no gateway sends")
-        event = Event(number, side, moment, verdict, frame, datagram_of(frame.octets, frame.link), went, images, not frame.octets)
+        datagram = datagram_of(frame.octets, frame.link)
+        if went and not datagram:
+            raise ValueError(f"event {number}: {names[side]} has a frame that no gateway passes")
+        event = Event(number, side, moment, verdict, frame, datagram, went, images, not frame.octets)
         self.first, self.last = self.first or moment, moment
         for before in self.befores:
             before(event)
