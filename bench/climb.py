@@ -49,7 +49,10 @@ def climb(searches, seconds, seed, measure):
     while time.monotonic() < end or not all(search.tries for search in searches):
         for search in searches:
             if search.step(draw, measure):
-                print(f"{search.label}, try {search.tries}: {search.most:,.0f}, {search.most / search.limit:.2f} times the limit: {search.best}", flush=True)
+                print(
+                    f"{search.label}, try {search.tries}: {search.most:,.0f}, {search.most / search.limit:.2f} times the limit: {search.best}",
+                    flush=True,
+                )
     print("\n| Search | Tries | Most | Limit | With |\n|---|---|---|---|---|")
     for search in searches:
         print(f"| {search.label} | {search.tries} | {search.most:,.0f} | {search.limit:,} | {search.best} |")

@@ -9,7 +9,11 @@ from datagrams import record, write_run
 
 HERE = os.path.dirname(os.path.abspath(__file__))
 GATEWAY = next(
-    (path for path in (f"{HERE}/../crates/gateway_program/out/gateway_program", f"{HERE}/../prebuilt/x86_64-linux/gateway_program") if os.path.exists(path)),
+    (
+        path
+        for path in (f"{HERE}/../crates/gateway_program/out/gateway_program", f"{HERE}/../prebuilt/x86_64-linux/gateway_program")
+        if os.path.exists(path)
+    ),
     "no program",
 )
 BUILT = tempfile.TemporaryDirectory()

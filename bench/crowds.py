@@ -84,7 +84,10 @@ class Crowd:
             "any": lambda _: self._draw.choice(known),
         }
         for number in itertools.count(0, 3):
-            names = [self._own + pointer(known[self._pick % len(known)] if isinstance(self._pick, int) else picks[self._pick](number + place)) for place in range(3)]
+            names = [
+                self._own + pointer(known[self._pick % len(known)] if isinstance(self._pick, int) else picks[self._pick](number + place))
+                for place in range(3)
+            ]
             if not self._add(resource(names[0], MINFO, names[1] + names[2])):
                 return
 
@@ -117,7 +120,19 @@ def is_crowd(parameters):
 
 
 WORST_UDP = SIMPLE | {"tail": 113, "pre": 11, "post": 0, "width": 2, "crowd": 250, "order": "bits", "pick": "last"}
-WORST_OWN = {"tail": 104, "pre": 18, "post": 0, "width": 3, "crowd": 342, "order": "shuffled", "pick": "all", "own": 1, "base": 13, "step": 1, "seed": 0}
+WORST_OWN = {
+    "tail": 104,
+    "pre": 18,
+    "post": 0,
+    "width": 3,
+    "crowd": 342,
+    "order": "shuffled",
+    "pick": "all",
+    "own": 1,
+    "base": 13,
+    "step": 1,
+    "seed": 0,
+}
 WORST_TCP = SIMPLE | {"tail": 70, "pre": 10, "post": 0, "width": 1, "crowd": 254, "order": "up", "pick": 28, "led": 30, "seed": 713}
 WORST_SEVEN = {"tail": 113, "pre": 4, "width": 2, "led": 0, "crowd": 558, "pick": "last", "seed": 705}
 """The worst that climbs found over UDP, without and with labels before the pointers, and over TCP. Seven messages in a segment, which pass, differ so
@@ -131,7 +146,9 @@ def crowd_over_udp(most, **changes):
 
 def crowd_over_tcp(most, **changes):
     """The message for a session, which grows by more than half unless `led` is 0."""
-    return Crowd(most, **{**WORST_TCP, "crowd": WORST_TCP["crowd"] * most // 8192, "led": WORST_TCP["led"] * most // 8192 + (most < 8192), **changes}).octets
+    return Crowd(
+        most, **{**WORST_TCP, "crowd": WORST_TCP["crowd"] * most // 8192, "led": WORST_TCP["led"] * most // 8192 + (most < 8192), **changes}
+    ).octets
 
 
 def reverse_suffixes(begin):
@@ -174,7 +191,10 @@ def fanned(most, reverse, suffixes, tail, led=0):
 def forked(octets, bits=504, tail=1):
     """Labels of so many octets in front of one name, each of which differs from the ones before it in another bit, and then in a number."""
     names = itertools.chain((1 << 8 * octets - 1 - bit for bit in range(min(bits, 8 * octets))), itertools.cycle(range(min(1 << 20, 256**octets))))
-    return itertools.chain([resource(label(b"b") * tail + b"\0", A, quad(HOST))], (resource(label(number.to_bytes(octets, "big")) + pointer(12), TXT) for number in names))
+    return itertools.chain(
+        [resource(label(b"b") * tail + b"\0", A, quad(HOST))],
+        (resource(label(number.to_bytes(octets, "big")) + pointer(12), TXT) for number in names),
+    )
 
 
 class Spelled:

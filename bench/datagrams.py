@@ -28,7 +28,7 @@ def datagram(protocol, source, destination, payload, place):
     pseudo = b"" if protocol == 1 else quad(source) + quad(destination) + struct.pack(">BBH", 0, protocol, len(payload))
     # A UDP checksum of 0 would say that there is none.
     total = checksum(pseudo + payload) or (0xFFFF if protocol == 17 else 0)
-    payload = payload[:place] + struct.pack(">H", total) + payload[place + 2:]
+    payload = payload[:place] + struct.pack(">H", total) + payload[place + 2 :]
     head = struct.pack(">BBHHHBBH", 0x45, 0, 20 + len(payload), 1, 0, 64, protocol, 0) + quad(source) + quad(destination)
     return head[:10] + struct.pack(">H", checksum(head)) + head[12:] + payload
 
@@ -50,9 +50,11 @@ def fragments(whole, size):
     """The fragments of a datagram without options, each but the last with so many octets of its payload, a multiple of 8."""
     payload = whole[20:]
     for start in range(0, len(payload), size):
-        part = payload[start:start + size]
+        part = payload[start : start + size]
         more = 0x2000 if start + size < len(payload) else 0
-        head = whole[:2] + struct.pack(">H", 20 + len(part)) + whole[4:6] + struct.pack(">H", more | start // 8) + whole[8:10] + bytes(2) + whole[12:20]
+        head = (
+            whole[:2] + struct.pack(">H", 20 + len(part)) + whole[4:6] + struct.pack(">H", more | start // 8) + whole[8:10] + bytes(2) + whole[12:20]
+        )
         yield head[:10] + struct.pack(">H", checksum(head)) + head[12:] + part
 
 
@@ -101,5 +103,5 @@ class Session:
     def says(self, side, octets):
         """The octets in pieces of 1,400 at most, and their acknowledgement."""
         for start in range(0, len(octets), 1400):
-            yield self.frame(side, 24, octets[start:start + 1400])
+            yield self.frame(side, 24, octets[start : start + 1400])
         yield self.frame("right" if side == "left" else "left", 16)

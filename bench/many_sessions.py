@@ -10,12 +10,15 @@ from datagrams import REALMS, Session, quad, record, write_run
 folder = sys.argv[1]
 kinds = [int(port) for port in (sys.argv[2] if len(sys.argv) > 2 else "21,53").split(",")]
 count = int(sys.argv[3]) if len(sys.argv) > 3 else 4096
-SETTINGS = REALMS + """static = [
+SETTINGS = (
+    REALMS
+    + """static = [
     { side = "left", host = "10.0.0.5", alias = "172.16.9.1" },
     { side = "right", host = "10.0.0.5", alias = "192.168.200.1" },
     { side = "right", host = "10.0.0.6", alias = "192.168.200.2" },
 ]
 """
+)
 QUESTION = b"\x03ftp\x05south\x07example\x03org\0" + struct.pack(">HH", 1, 1)
 
 
@@ -37,5 +40,8 @@ def session(number):
 
 
 frames = [frame for number in range(count) for frame in session(number)]
-sides = [[record(number // 1000000 + 1, number % 1000000, octets) for number, (side, octets) in enumerate(frames) if side == of] for of in ("left", "right")]
+sides = [
+    [record(number // 1000000 + 1, number % 1000000, octets) for number, (side, octets) in enumerate(frames) if side == of]
+    for of in ("left", "right")
+]
 write_run(folder, SETTINGS, *sides)

@@ -3,12 +3,15 @@ import struct
 
 from datagrams import REALMS, Session, quad, udp
 
-SETTINGS = REALMS + """static = [
+SETTINGS = (
+    REALMS
+    + """static = [
     { side = "left", host = "10.0.0.5", alias = "172.16.9.1" },
     { side = "left", host = "10.0.0.6", alias = "172.16.9.2" },
     { side = "right", host = "10.0.0.5", alias = "192.168.200.1" },
 ]
 """
+)
 WIDE = SETTINGS.replace("192.168.200.254", "192.168.203.254").replace("172.16.9.254", "172.16.12.254")
 HOST, OTHER = "10.0.0.5", "192.168.200.1"
 QUESTION = b"\x03ftp\x05south\x07example\x03org\0" + struct.pack(">HH", 1, 1)
@@ -61,6 +64,7 @@ def questions():
 
 def acknowledgements(port, left=b"", right=b""):
     """Bare ones of the client, behind what both sides have said."""
+
     def events():
         way = session(port)
         yield from way.opens()
@@ -68,6 +72,7 @@ def acknowledgements(port, left=b"", right=b""):
         yield from way.says("left", left)
         while True:
             yield way.frame("left", 16)
+
     return events
 
 

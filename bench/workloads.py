@@ -3,11 +3,14 @@ from itertools import cycle, islice
 
 from datagrams import REALMS, paced, record, tcp, udp, write_run
 
-SETTINGS = REALMS + """static = [
+SETTINGS = (
+    REALMS
+    + """static = [
     { side = "left", host = "10.0.0.5", alias = "172.16.9.1" },
     { side = "right", host = "10.0.0.5", alias = "192.168.200.1" },
 ]
 """
+)
 LENGTHS = (60, 576, 60, 1400)
 
 
@@ -23,6 +26,7 @@ def from_one_side(folder, frames):
 
 def from_both_sides(folder, frames):
     """UDP and TCP of 253 hosts and, to every second frame, an answer: two thirds of the frames from the left."""
+
     def kinds(host, far):
         for length in LENGTHS:
             yield udp(host, 4000, far, 4001, filling(length - 28))

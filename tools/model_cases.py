@@ -25,8 +25,8 @@ def capture(path):
     link = struct.unpack(order + "I", octets[20:24])[0]
     records, place = [], 24
     while place + 16 <= len(octets):
-        seconds, fraction, kept, original = struct.unpack(order + "IIII", octets[place:place + 16])
-        records.append((seconds * 10**9 + fraction * unit, kept >= original, octets[place + 16:place + 16 + kept]))
+        seconds, fraction, kept, original = struct.unpack(order + "IIII", octets[place : place + 16])
+        records.append((seconds * 10**9 + fraction * unit, kept >= original, octets[place + 16 : place + 16 + kept]))
         place += 16 + kept
     return link, records
 
@@ -50,7 +50,7 @@ def pieces(octets, indent):
     """Octets in hexadecimal, those of many on lines of their own."""
     if len(octets) <= PIECE:
         return hexed(octets)
-    return "(%s)" % (indent + "++ ").join(hexed(octets[n:n + PIECE]) for n in range(0, len(octets), PIECE))
+    return "(%s)" % (indent + "++ ").join(hexed(octets[n : n + PIECE]) for n in range(0, len(octets), PIECE))
 
 
 def narrow(line):
@@ -111,7 +111,14 @@ def case(folder, name):
     text = "-- %s\n" % readme
     text += "abbrev %s : List Row\n%s =\n%s\n" % (name, name, listed(rows, "    "))
     text += "%s_settings : Settings\n%s_settings = %s\n\n" % ("abbrev " + name, name, settings(table))
-    text += "%s_holds : found %s_settings %s ≡ wanted %s %s\nunfolding frames_on_literals\n%s_holds = refl\n" % (name, name, name, name, pending, name)
+    text += "%s_holds : found %s_settings %s ≡ wanted %s %s\nunfolding frames_on_literals\n%s_holds = refl\n" % (
+        name,
+        name,
+        name,
+        name,
+        pending,
+        name,
+    )
     return "\n".join(narrow(line) for line in text.split("\n")), refusals
 
 

@@ -233,7 +233,11 @@ class Page:
         plain = {word for word in self.all if PLAIN_TYPE.match(MODULES[word[0]].defined[word[1]][0])}
         for crate, rows in groupby(sorted(laws(), key=lambda law: ORDER.index(law[0])), key=lambda law: law[0]):
             others = {word for word in every_word() if crate_of(word) != crate}
-            named = {name: rests_on(words, frozenset(self.all | others)) & self.all - plain for _, name, words in rows if not words & set(STATEMENTS.values())}
+            named = {
+                name: rests_on(words, frozenset(self.all | others)) & self.all - plain
+                for _, name, words in rows
+                if not words & set(STATEMENTS.values())
+            }
             self.laws |= {(crate, name): words - self.by_law for name, words in named.items()}
             self.by_law.update(*named.values())
 
@@ -394,7 +398,9 @@ Under each statement stand its definitions and lines.
 Under each crate stand its modules with their lines, then what each law and the cases name, and at last what neither does, with the standards that
 comments of the crate cite. A word with ¹ isn't needed for `Promised`, one with ² only for `Answers` and `IsFinished`, and one with ³ only for that.
 {sections}
-""".replace("{{minute}}", str(MINUTE))
+""".replace(
+    "{{minute}}", str(MINUTE)
+)
 
 
 if __name__ == "__main__":

@@ -76,7 +76,12 @@ def unnamed():
     for path, lines in sources():
         said[path.split("/")[1]] += "\n".join(lines)
     uses = uses_of(lines_of(CRATES))
-    return [f"crates.txt: {name} never names {other}" for name, others in uses.items() for other in others if not re.search(rf"\b(?:Rattle\.)?{other}(?:\.|::|;)", said[name])]
+    return [
+        f"crates.txt: {name} never names {other}"
+        for name, others in uses.items()
+        for other in others
+        if not re.search(rf"\b(?:Rattle\.)?{other}(?:\.|::|;)", said[name])
+    ]
 
 
 def main():

@@ -221,9 +221,7 @@ def again() -> str:
 
 def main() -> None:
     """Says what was seen in one line."""
-    calls: dict[str, Callable[..., str]] = {
-        call.__name__: call for call in (many, pieces, at_once, parts, short, across, again)
-    }
+    calls: dict[str, Callable[..., str]] = {call.__name__: call for call in (many, pieces, at_once, parts, short, across, again)}
     print(calls[sys.argv[1]](*sys.argv[2:]))
 
 
