@@ -2,11 +2,11 @@
 from collections import Counter
 from ipaddress import IPv4Address, IPv4Network
 
-from rendapil.bindings import SIDES
+from rendapil.bindings import SECOND, SIDES
 from rendapil.files import Capture, lines, shown
 from rendapil.frames import second_of, verdicts_of
 from rendapil.sayings import quoted
-from rendapil.trying.needs import SECOND, Need
+from rendapil.trying.needs import Need
 from rendapil.trying.two_realms import TwoRealms
 
 FRAGMENTS, STATICS = 100_000, 50
