@@ -96,7 +96,9 @@ class Refusals:
         if len(self._rows) > HOSTS:
             self._sum_rarest()
         kept: list[tuple[str, str, str, Row]] = [(reason, SIDES[side], named(host), row) for (reason, side, host), row in self._rows.items()]
-        summed: list[tuple[str, str, str, Row]] = [(reason, SIDES[side], f"{count:,} other hosts", row) for (reason, side), (row, count) in self._summed.items()]
+        summed: list[tuple[str, str, str, Row]] = [
+            (reason, SIDES[side], f"{count:,} other hosts", row) for (reason, side), (row, count) in self._summed.items()
+        ]
         kept, summed = (sorted(rows, key=lambda one: -one[3].count) for rows in (kept, summed))
         return kept[:most] + summed
 
