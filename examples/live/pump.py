@@ -145,7 +145,7 @@ class Pump:
             return
         for side, device in enumerate(self._devices):
             if may_read:
-                self._loop.watch(device.fd, lambda side=side: self._pump(side))
+                self._loop.watch(device.fd, partial(self._pump, side))
             else:
                 self._loop.rest(device.fd)
 
