@@ -40,8 +40,14 @@ class Dialogues:
 
     def _made_settings(self) -> str:
         """The text of the settings."""
-        sides = "".join(f'{side} = {{ pool_first = "{pool[0]}", pool_last = "{pool[-1]}", link = "raw" }}\n' for side, pool in zip(SIDES, self._pools))
-        statics = [(side, host, alias) for side in (0, 1) for host, alias in zip(self._draw.sample(self._hosts, 2), self._draw.sample(self._pools[1 - side], 2))]
+        sides = "".join(
+            f'{side} = {{ pool_first = "{pool[0]}", pool_last = "{pool[-1]}", link = "raw" }}\n' for side, pool in zip(SIDES, self._pools)
+        )
+        statics = [
+            (side, host, alias)
+            for side in (0, 1)
+            for host, alias in zip(self._draw.sample(self._hosts, 2), self._draw.sample(self._pools[1 - side], 2))
+        ]
         rows = "".join(f'[[static]]\nside = "{SIDES[side]}"\nhost = "{host}"\nalias = "{alias}"\n' for side, host, alias in statics)
         return f'same = ["203.0.113.0/24"]\nfragments = "{self._draw.choice(("join", "join", "refuse"))}"\n' + sides + rows
 
@@ -176,6 +182,10 @@ class Dialogues:
         for _ in range(count):
             name = b"\xc0\x0c" if body else owner
             if draw.random() < 0.3:
-                name = b"".join(bytes([len(part)]) + part for part in draw.choice(known).encode().split(b".")[::-1]) + draw.choice((b"\x07in-addr", b"\x07IN-Addr")) + b"\x04arpa\0"
+                name = (
+                    b"".join(bytes([len(part)]) + part for part in draw.choice(known).encode().split(b".")[::-1])
+                    + draw.choice((b"\x07in-addr", b"\x07IN-Addr"))
+                    + b"\x04arpa\0"
+                )
             body += resource(name, draw.choice((1, 1, 1, 16)), quad(draw.choice(known)) if draw.random() < 0.9 else b"abc")
         return struct.pack(">6H", 7, 0x8180, 0, count + (6 if b"\x3f" * 192 in body else 0), 0, 0) + body

@@ -14,11 +14,13 @@ static = [ { side = "right", host = "10.0.0.5", alias = "192.168.0.1" } ]
 """
 
 
-def host(number):
+def host(number: int) -> str:
+    """A host by its number."""
     return "10.%d.%d.%d" % (1 + number // 65536, number // 256 % 256, number % 256)
 
 
-def frame(number):
+def frame(number: int) -> bytes:
+    """A frame by its number."""
     row = number % rows
     if kind == "hosts":
         return udp(host(row), 4000, "192.168.0.1", 4001, bytes(32))

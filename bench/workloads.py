@@ -1,29 +1,35 @@
 """The workloads of `bench/run`: settings and two raw captures."""
+from collections.abc import Iterator
 from itertools import cycle, islice
 
 from datagrams import REALMS, paced, record, tcp, udp, write_run
 
-SETTINGS = REALMS + """static = [
+SETTINGS = (
+    REALMS
+    + """static = [
     { side = "left", host = "10.0.0.5", alias = "172.16.9.1" },
     { side = "right", host = "10.0.0.5", alias = "192.168.200.1" },
 ]
 """
+)
 LENGTHS = (60, 576, 60, 1400)
 
 
-def filling(length):
+def filling(length: int) -> bytes:
+    """So many octets."""
     return bytes(i * 7 & 255 for i in range(length))
 
 
-def from_one_side(folder, frames):
+def from_one_side(folder: str, frames: int) -> None:
     """UDP of one host, half of it 60 octets, a quarter 576 and a quarter 1,400."""
     kinds = [udp("10.0.0.5", 4000, "192.168.200.1", 4001, filling(length - 28)) for length in LENGTHS]
     write_run(folder, SETTINGS, paced(islice(cycle(kinds), frames), 1000000))
 
 
-def from_both_sides(folder, frames):
+def from_both_sides(folder: str, frames: int) -> None:
     """UDP and TCP of 253 hosts and, to every second frame, an answer: two thirds of the frames from the left."""
-    def kinds(host, far):
+
+    def kinds(host: str, far: str) -> Iterator[bytes]:
         for length in LENGTHS:
             yield udp(host, 4000, far, 4001, filling(length - 28))
             yield tcp(host, 4000, far, 4001, 24, 1, 1, filling(length - 40))
@@ -31,7 +37,7 @@ def from_both_sides(folder, frames):
     hosts = ["10.0.0.5"] + [f"10.0.1.{number}" for number in range(1, 253)]
     asked = [list(kinds(host, "192.168.200.1")) for host in hosts]
     answered = [list(kinds("10.0.0.5", f"172.16.9.{number + 1}")) for number in range(253)]
-    sides = ([], [])
+    sides: tuple[list[bytes], list[bytes]] = ([], [])
     for turn in range(frames * 2 // 3):
         moment = divmod(2 * turn, 1000000)
         sides[0].append(record(moment[0] + 1, moment[1], asked[turn % 253][turn // 253 % 8]))

@@ -46,10 +46,18 @@ def sessions() -> dict[str, dict]:
 def fault_in(session: dict, rows: list[Told]) -> str:
     """What is told wrongly of a session, if anything is: what breaks is the first row, by its name, but for what it uses that breaks too; of what works no
     row says that it breaks."""
-    breaking = [row.application.partition(", TCP")[0].partition(", UDP")[0].partition(", IP ")[0] for row in rows if row.weight == "breaks" and row.sure != "maybe"]
+    breaking = [
+        row.application.partition(", TCP")[0].partition(", UDP")[0].partition(", IP ")[0]
+        for row in rows
+        if row.weight == "breaks" and row.sure != "maybe"
+    ]
     wanted = [session["breaks"]] if "breaks" in session else []
     if wanted:
-        return "" if [name for name in breaking if name not in session.get("also", [])][:1] == wanted else f"{wanted[0]} is told as {[(row.application, row.weight, row.sure) for row in rows]}"
+        return (
+            ""
+            if [name for name in breaking if name not in session.get("also", [])][:1] == wanted
+            else f"{wanted[0]} is told as {[(row.application, row.weight, row.sure) for row in rows]}"
+        )
     return f"told as breaking: {breaking}" if breaking else ""
 
 

@@ -19,7 +19,11 @@ from dialogues import Dialogues
 from datagrams import fragments, quad, tcp, udp
 from messages import resource
 
-LARGE = RIGHT.replace("192.168.200.254", "192.168.255.255").replace('first = "172.16.9.1"', 'first = "172.16.0.0"').replace("172.16.9.254", "172.16.255.255")
+LARGE = (
+    RIGHT.replace("192.168.200.254", "192.168.255.255")
+    .replace('first = "172.16.9.1"', 'first = "172.16.0.0"')
+    .replace("172.16.9.254", "172.16.255.255")
+)
 
 
 class Checked(Bindings):
@@ -111,7 +115,9 @@ class OverRuns(unittest.TestCase):
             """In each run of the folder that CASES names."""
             runs = 0
             for case in os.scandir(os.environ["CASES"]):
-                names = [f"{case.path}/{name}" for name in ("settings.toml", "left.pcap", "right.pcap", "left_out.pcap", "right_out.pcap", "report.txt")]
+                names = [
+                    f"{case.path}/{name}" for name in ("settings.toml", "left.pcap", "right.pcap", "left_out.pcap", "right_out.pcap", "report.txt")
+                ]
                 if all(os.path.exists(name) and os.path.getsize(name) for name in names):
                     with self.subTest(case.name), open(names[-1], encoding="ascii") as report:
                         if not report.read(1).startswith("{"):
@@ -295,7 +301,9 @@ class Hostile(unittest.TestCase):
         """A long message takes milliseconds, whatever its names are: a chain of pointers, long names, and addresses for a pool that is all but full."""
         self.table._bind(Binding(1, int(IPv4Address("10.0.0.53")), int(IPv4Address(OTHER)), True), 0)
         long_names = itertools.chain([resource(b"\x01a" * 126 + b"\0", 1, quad("127.0.0.1"))], itertools.repeat(resource(FIRST, 16)))
-        frames = [udp(HOST, 53, OTHER, 40000, records(made, most)) for made, most in ((chained(8000), 60_000), (chained(2000), 8213), (long_names, 65_507))]
+        frames = [
+            udp(HOST, 53, OTHER, 40000, records(made, most)) for made, most in ((chained(8000), 60_000), (chained(2000), 8213), (long_names, 65_507))
+        ]
         for frame in frames:
             self.assertLess(self.passes(1, frame, datagram("172.16.0.0 > 10.0.0.53", UDP, frame[20:])), 1)
         for number in range(60_000):

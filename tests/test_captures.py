@@ -43,7 +43,11 @@ class Captures(unittest.TestCase):
     def test_counts_are_the_programs(self) -> None:
         """As many frames are told as the program refuses for it; of the example nothing is."""
         self.assertEqual(said(*CHECK, "--brief", *INPUTS), (0, ""))
-        ether = [bytes(12) + b"\x81\0\0\7\x08\0" + BACK, bytes(12) + b"\x08\0" + BACK[:26] + b"\0\1" + BACK[28:], bytes(12) + b"\x08\0" + BACK[:10] + b"\0\1" + BACK[12:]]
+        ether = [
+            bytes(12) + b"\x81\0\0\7\x08\0" + BACK,
+            bytes(12) + b"\x08\0" + BACK[:26] + b"\0\1" + BACK[28:],
+            bytes(12) + b"\x08\0" + BACK[:10] + b"\0\1" + BACK[12:],
+        ]
         parts = list(fragments(udp("10.0.0.9", 4, "192.168.200.1", 5, bytes(64)), 40))
         left = self.write("left", capture([GOOD, FAR, OWN, FAR, FAR, *parts]))
         right = self.write("right", capture(ether)[:20] + struct.pack("<I", 1) + capture(ether)[24:])
@@ -55,7 +59,9 @@ class Captures(unittest.TestCase):
             self.assertEqual(said(PROGRAM, "run", *words), (0, ""))
             with open(words[-1], encoding="ascii") as file:
                 verdicts = sorted(line.split()[3] for line in file if not line.startswith("done"))
-            self.assertEqual(verdicts, ["BadHeaderSum", "BadSum", "Fragment", "Fragment", "NoBinding", "NoBinding", "NoBinding", "NotIpv4", "SourceInPool", "pass"])
+            self.assertEqual(
+                verdicts, ["BadHeaderSum", "BadSum", "Fragment", "Fragment", "NoBinding", "NoBinding", "NoBinding", "NotIpv4", "SourceInPool", "pass"]
+            )
 
     def test_swapped_and_twice(self) -> None:
         """Left and right swapped, and one capture given twice, are told once, with what to do; also in the two lines that a run says."""
@@ -66,9 +72,15 @@ class Captures(unittest.TestCase):
         self.assertEqual(self.lines(good, self.back), [])
         copy = self.write("copy", capture([GOOD] * 5))
         for other in (good, copy):
-            self.assertIn(f"{good} and {other} are one capture: each has to have what the hosts of its own realm sent. Make both: rendapil try {good}", self.lines(good, other)[0])
+            self.assertIn(
+                f"{good} and {other} are one capture: each has to have what the hosts of its own realm sent. Make both: rendapil try {good}",
+                self.lines(good, other)[0],
+            )
         empty = self.write("none", capture([]))
-        self.assertEqual(self.lines(self.back, empty)[0], f"left and right are swapped: 4 of 4 frames go to the other realm's pool. Name {empty} before {self.back}")
+        self.assertEqual(
+            self.lines(self.back, empty)[0],
+            f"left and right are swapped: 4 of 4 frames go to the other realm's pool. Name {empty} before {self.back}",
+        )
 
     def test_commands_mend(self) -> None:
         """Each file that the gateway doesn't read is told with the command that makes it one; where the command is there, it does."""
@@ -99,7 +111,11 @@ class Captures(unittest.TestCase):
             ("text", b"left = 1\n", "is no capture: Magic. Are the words in their order?"),
             ("empty", b"", "is empty: NoHead"),
             ("wlan", head + struct.pack("<I", 105) + frames, "has link type 105: Link. Capture on an Ethernet interface or a tun device"),
-            ("long", whole[:32] + b"\xff\xff\xff\xff" + whole[36:], "has more than 262144 bytes in its record 1: RecordTooLong. It isn't whole: copy it again"),
+            (
+                "long",
+                whole[:32] + b"\xff\xff\xff\xff" + whole[36:],
+                "has more than 262144 bytes in its record 1: RecordTooLong. It isn't whole: copy it again",
+            ),
             ("stamp", whole[:28] + b"\xff\xff\xff\0" + whole[32:], "has a stamp that is none in its record 1: Stamp. 'rendapil try' reads it"),
         ):
             self.assertEqual(self.lines(self.write(name, octets), self.back), [f"{self.room}/{name}: it {line}"])

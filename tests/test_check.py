@@ -64,9 +64,15 @@ class Check(unittest.TestCase):
             (RIGHT + "[[statics]]", "statics isn't known, and is ignored: is static meant?"),
             (RIGHT + 'fragment = "join"', "fragment isn't known, and is ignored: is fragments meant?"),
             (RIGHT + 'sames = ["203.0.113.0/24"]', "sames isn't known, and is ignored: is same meant?"),
-            (RIGHT + "[[oid]]\nprefix = '1.3'\nskip = 1\nreport = 'json'", "oid.1.report isn't known, and is ignored: it belongs in front of all tables"),
+            (
+                RIGHT + "[[oid]]\nprefix = '1.3'\nskip = 1\nreport = 'json'",
+                "oid.1.report isn't known, and is ignored: it belongs in front of all tables",
+            ),
             (RIGHT + "elephants = 3", "elephants isn't known, and is ignored"),
-            (RIGHT.replace('"raw" }\nright', '"raw", next_mca = "02:00:5e:10:00:01" }\nright'), "left.next_mca isn't known, and is ignored: is left.next_mac meant?"),
+            (
+                RIGHT.replace('"raw" }\nright', '"raw", next_mca = "02:00:5e:10:00:01" }\nright'),
+                "left.next_mca isn't known, and is ignored: is left.next_mac meant?",
+            ),
         ):
             self.assertEqual(self.lines_of(text), [line])
 
@@ -103,12 +109,20 @@ class Check(unittest.TestCase):
         rules = RIGHT + '[[oid]]\nprefix = "1.3.6.1.2.1.4.20.1"\nskip = 1\n'
         left = '[[static]]\nside = "left"\nhost = "10.0.0.5"\nalias = "172.16.9.1"\n'
         right = '[[static]]\nside = "right"\nhost = "10.0.0.5"\nalias = "192.168.200.1"\n'
-        for text, bare in ((rules, "left and right"), (rules + left, "right"), (rules + right, "left"), (rules + left + right, ""), (RIGHT + left, "")):
+        for text, bare in (
+            (rules, "left and right"),
+            (rules + left, "right"),
+            (rules + right, "left"),
+            (rules + left + right, ""),
+            (RIGHT + left, ""),
+        ):
             self.assertEqual(self.lines_of(text), [])
             status, told = said(*CHECK, self.name)
             lines = [line for line in told.splitlines() if line.startswith(f"{self.name}: ")]
             self.assertEqual((status, len(lines)), (1, 1) if bare else (0, 0))
-            self.assertEqual([line.partition(" hosts, and ")[0] for line in lines], [f"{self.name}: oid: SNMP messages tell aliases of {bare}"] if bare else [])
+            self.assertEqual(
+                [line.partition(" hosts, and ")[0] for line in lines], [f"{self.name}: oid: SNMP messages tell aliases of {bare}"] if bare else []
+            )
 
     def test_examples(self) -> None:
         """Those of this repository are right, and told."""

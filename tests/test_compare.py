@@ -25,7 +25,9 @@ from rendapil.files import Capture
 from rendapil.packet import Packet
 
 SETTINGS, CAME, WENT = CASE[0], CASE[1:3], CASE[3:5]
-HAS_JINJA = bool(find_spec("jinja2")) or not subprocess.run(["/usr/bin/python3", "-I", "-c", "import jinja2, tomllib"], stderr=subprocess.DEVNULL).returncode
+HAS_JINJA = (
+    bool(find_spec("jinja2")) or not subprocess.run(["/usr/bin/python3", "-I", "-c", "import jinja2, tomllib"], stderr=subprocess.DEVNULL).returncode
+)
 SHORT = RIGHT + 'static = [{ side = "right", host = "10.0.0.5", alias = "192.168.200.1" }]\n'
 LATE = 30_000
 """How long the device of these tests keeps a frame, in nanoseconds."""
@@ -197,7 +199,12 @@ class Equal(Compared):
         names = ("left-in", "right-in", "left-out", "right-out")
         files = [self.file(name, pcap(frames)) for name, frames in zip(names, self.came + self.went)]
         page = f"{self.room.name}/page.html"
-        self.assertEqual(subprocess.run([*COMPARE, self.settings, *files, "--html", page, "--program", PROGRAM], stdout=subprocess.DEVNULL, check=False).returncode, 1)
+        self.assertEqual(
+            subprocess.run(
+                [*COMPARE, self.settings, *files, "--html", page, "--program", PROGRAM], stdout=subprocess.DEVNULL, check=False
+            ).returncode,
+            1,
+        )
         with open(page, encoding="utf-8") as file:
             text = file.read()
         self.assertNotIn("<script", text)
@@ -252,7 +259,9 @@ class Equal(Compared):
         files = [self.file(name, pcap(self.ethernet(side), 1)) for side, name in enumerate(("left", "right"))]
         status, told = said(SETTINGS, *files)
         self.assertEqual((status, [row for row in told["causes"] if row["kind"] == DIFFERENT]), (0, []))
-        files = [self.file(name, pcap(sorted(self.came[side] + self.went[side], key=lambda one: one[0]))) for side, name in enumerate(("left", "right"))]
+        files = [
+            self.file(name, pcap(sorted(self.came[side] + self.went[side], key=lambda one: one[0]))) for side, name in enumerate(("left", "right"))
+        ]
         self.assertEqual(said(SETTINGS, *files)[0], 0)
 
     def test_both_links_in_a_file(self) -> None:
@@ -278,7 +287,11 @@ class Missing(Compared):
 
         def fits(one: bytes) -> bool:
             end = (int.from_bytes(one[24:28]) + len(payload(one))).to_bytes(5)[1:]
-            return plain_tcp(one) and sum(address == one[12:16] and port == one[20:22] and number >= end for address, port, number in acknowledged) > 0 and not one[33] & 1
+            return (
+                plain_tcp(one)
+                and sum(address == one[12:16] and port == one[20:22] and number >= end for address, port, number in acknowledged) > 0
+                and not one[33] & 1
+            )
 
         return self.went[side][self.place(side, fits)][1]
 
@@ -293,7 +306,9 @@ class Missing(Compared):
     def test_incoming(self) -> None:
         """The device can't have made up octets."""
         one = self.data(0)
-        came = [pair for pair in self.came[1] if pair[1][20:22] != one[20:22] or pair[1][24:40] != one[24:28] + pair[1][28:40] or not payload(pair[1])]
+        came = [
+            pair for pair in self.came[1] if pair[1][20:22] != one[20:22] or pair[1][24:40] != one[24:28] + pair[1][28:40] or not payload(pair[1])
+        ]
         self.assertLess(len(came), len(self.came[1]))
         self.came[1] = came
         self.holds([])
@@ -333,7 +348,6 @@ class Missing(Compared):
                         octets[at] = random.randrange(256)
                     frames[place] = frames[place][0], bytes(octets[: random.choice((len(octets), len(octets), 20, 24, 33))])
             self.assertEqual(self.compared("--any-port")[0], 1)
-
 
     def test_sides_swapped(self) -> None:
         """What went out to the left stands for what went to the right."""
@@ -406,7 +420,9 @@ class Faults(Compared):
         one = self.went[0][place][1]
         self.change(0, place, put(one, one.index(bytes((192, 168, 200, 7)), 28), bytes((10, 0, 0, 7))))
         self.holds(["DNS answers are translated otherwise"])
-        came = next(datagram for _, datagram in self.came[1] if datagram[4:6] == one[4:6] and datagram[20:24] == one[20:24] and service(datagram) == "DNS")
+        came = next(
+            datagram for _, datagram in self.came[1] if datagram[4:6] == one[4:6] and datagram[20:24] == one[20:24] and service(datagram) == "DNS"
+        )
         self.change(0, place, put(one[:2] + came[2:4] + one[4:28] + came[28:], 24, came[24:26]))
         self.holds(["DNS answers aren't translated"])
 
@@ -420,11 +436,15 @@ class Faults(Compared):
 
     def ftp(self, line: bytes) -> int:
         """The first segment of the device with such a line alone, that came as a whole, and with octets behind it."""
-        whole = {payload(one)[-9:] for _, one in self.came[0] if service(one) == "FTP" and payload(one).startswith(line) and payload(one).count(b"\n") == 1}
+        whole = {
+            payload(one)[-9:] for _, one in self.came[0] if service(one) == "FTP" and payload(one).startswith(line) and payload(one).count(b"\n") == 1
+        }
 
         def fits(one: bytes) -> bool:
             data = payload(one)
-            later = [other for _, other in self.went[1] if other[9] == 6 and other[12:24] == one[12:24] and other[24:28] > one[24:28] and payload(other)]
+            later = [
+                other for _, other in self.went[1] if other[9] == 6 and other[12:24] == one[12:24] and other[24:28] > one[24:28] and payload(other)
+            ]
             return service(one) == "FTP" and data.startswith(line) and data.count(b"\n") == 1 and data[-9:] in whole and len(later) > 2
 
         return self.place(1, fits)
@@ -439,7 +459,12 @@ class Faults(Compared):
         by = len(kept) - len(line)
         for frames, flow, at in ((self.went[1], ends, 24), (self.came[1], ends[4:8] + ends[:4] + ends[10:12] + ends[8:10], 28)):
             for number, (moment, other) in enumerate(frames):
-                if other[9] == 6 and other[12:24] == flow and (ahead := (int.from_bytes(other[at : at + 4]) - sequence) % (1 << 32)) < 1 << 30 and ahead > 0:
+                if (
+                    other[9] == 6
+                    and other[12:24] == flow
+                    and (ahead := (int.from_bytes(other[at : at + 4]) - sequence) % (1 << 32)) < 1 << 30
+                    and ahead > 0
+                ):
                     frames[number] = moment, put(other, at, ((sequence + ahead + by) % (1 << 32)).to_bytes(4))
         self.change(1, place, with_payload(one, kept))
         self.holds(["FTP: PORT lines aren't translated"])
@@ -461,7 +486,11 @@ class Faults(Compared):
         one = self.went[0][place][1]
         ends, sequence = one[12:24], int.from_bytes(one[24:28])
         self.went[0] = [pair for pair in self.went[0] if pair[1][12:24] != ends or int.from_bytes(pair[1][24:28]) < sequence]
-        self.came[0] = [pair for pair in self.came[0] if pair[1][12:24] != ends[4:8] + ends[:4] + ends[10:12] + ends[8:10] or int.from_bytes(pair[1][28:32]) <= sequence]
+        self.came[0] = [
+            pair
+            for pair in self.came[0]
+            if pair[1][12:24] != ends[4:8] + ends[:4] + ends[10:12] + ends[8:10] or int.from_bytes(pair[1][28:32]) <= sequence
+        ]
         status, told = self.compared()
         self.assertEqual(status, 1)
         self.assertTrue(any(cause.startswith(("TCP: octets lost", "frame lost: TCP")) for cause in told[DIFFERENT]), told)

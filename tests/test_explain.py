@@ -64,7 +64,11 @@ def write_run(room: str, events: Iterable[Happened], names: Iterable[str] = NAME
                 sides[place] += struct.pack("<IIII", number, 0, len(one), len(one)) + one
         report += f"{number} {bindings.SIDES[side]} {number}000000000 {verdict} {int(verdict == 'pass')}\n"
         passed += verdict == "pass"
-    contents = [(RIGHT + STATIC).encode(), *sides, f"{report}done events={report.count(chr(10))} passed={passed} refused=0 to_left=0 to_right=0 pending=0\n".encode()]
+    contents = [
+        (RIGHT + STATIC).encode(),
+        *sides,
+        f"{report}done events={report.count(chr(10))} passed={passed} refused=0 to_left=0 to_right=0 pending=0\n".encode(),
+    ]
     for path, octets in zip(paths, contents):
         with open(path, "wb") as file:
             file.write(octets)
@@ -154,7 +158,9 @@ class Explain(InRoom):
         with open(CASE[5], encoding="ascii") as file:
             for line in file:
                 number, side, moment, verdict, count, *_ = line.split() + [""] * 4
-                lines.append(f'{{"event":{number},"frames":{count},"moment":{moment},"side":"{side}","verdict":"{verdict}"}}\n' if number != "done" else line)
+                lines.append(
+                    f'{{"event":{number},"frames":{count},"moment":{moment},"side":"{side}","verdict":"{verdict}"}}\n' if number != "done" else line
+                )
         lines[-1] = '{"done":true,"events":2}\n' if lines[-1].startswith("done") else lines[-1]
         again = json.loads(said(*EXPLAIN, "--json", *CASE[:5], self.write("report.json", "".join(lines)))[1])
         self.assertEqual({**again, "end": ""}, {**whole, "end": ""})
@@ -320,7 +326,9 @@ class Damaged(InRoom):
         """What nobody foresaw is told in one line, with its place."""
         with mock.patch.object(explain, "tell", lambda *_: {}["x"]):
             status, _ = self.asked([*INPUTS, *OUTPUTS])
-        self.assertRegex(str(status), r"^rendapil explain: a fault of this tool, and not of your files: KeyError at test_explain.py:\d+. Please report it$")
+        self.assertRegex(
+            str(status), r"^rendapil explain: a fault of this tool, and not of your files: KeyError at test_explain.py:\d+. Please report it$"
+        )
 
     def test_reports(self) -> None:
         """A report that says what no run says is refused, whatever octets it has."""
@@ -399,7 +407,15 @@ class Page(InRoom):
         browser = shutil.which("chromium")
         if not browser:
             self.skipTest("there is no chromium")
-        words = [browser, "--headless", "--no-sandbox", "--disable-gpu", f"--user-data-dir={self.room}/browser", "--dump-dom", f"file://{self.page}{place}"]
+        words = [
+            browser,
+            "--headless",
+            "--no-sandbox",
+            "--disable-gpu",
+            f"--user-data-dir={self.room}/browser",
+            "--dump-dom",
+            f"file://{self.page}{place}",
+        ]
         return subprocess.run(words, stdout=subprocess.PIPE, stderr=subprocess.DEVNULL, text=True, check=False, timeout=120).stdout
 
     def test_says_what_the_table_says(self) -> None:
@@ -445,7 +461,17 @@ class Page(InRoom):
     def test_secrets_are_hidden(self) -> None:
         """What follows PASS isn't told, in no form, even where the line came in parts."""
         for word in ("PASS", "pass"):
-            parts = (f"{word} sec".encode(), b"ret\r\n", f"{word} secret\r\n".encode(), word[:2].encode(), word[2:].encode(), b" ", b"sec", b"ret\r\n", b"NOOP\r\n")
+            parts = (
+                f"{word} sec".encode(),
+                b"ret\r\n",
+                f"{word} secret\r\n".encode(),
+                word[:2].encode(),
+                word[2:].encode(),
+                b" ",
+                b"sec",
+                b"ret\r\n",
+                b"NOOP\r\n",
+            )
             happened = session(21, *((part, part) for part in parts))
             files = write_run(self.room, [*happened, happened[4], happened[-2]])  # two of them once more
             page = self.write_page(*files)
@@ -482,7 +508,7 @@ class Lines(InRoom):
 
     def test_hostile_events(self) -> None:
         """They are one line of ASCII each."""
-        question = struct.pack(">HHHH", 4000, 53, 0, 0) + named(b"\x1b]0;owned\x07\n\"")
+        question = struct.pack(">HHHH", 4000, 53, 0, 0) + named(b'\x1b]0;owned\x07\n"')
         answer = question[:-5] + b"x" + question[-4:]
         files = write_run(self.room, [*session(21, (HOSTILE + b"\r\n", b"\x1b" + HOSTILE + b"\r\n")), Happened(0, bindings.UDP, question, answer)])
         status, text = said(*EXPLAIN, "--events", *files)

@@ -25,7 +25,10 @@ def pcapng(path: str, order: str = "<", resolution: int = 9, ahead: int = 0) -> 
     """A capture as pcapng: in this byte order, with stamps of ten to minus this, which lack so many seconds."""
     said = struct.pack(order + "HHB3x", 9, 1, resolution) + struct.pack(order + "HHq", 14, 8, ahead) + bytes(4)
     link = next(records(path)).link
-    parts = [block(0x0A0D0D0A, struct.pack(order + "IHHq", 0x1A2B3C4D, 1, 0, -1), order), block(1, struct.pack(order + "HHI", link, 0, 0) + said, order)]
+    parts = [
+        block(0x0A0D0D0A, struct.pack(order + "IHHq", 0x1A2B3C4D, 1, 0, -1), order),
+        block(1, struct.pack(order + "HHI", link, 0, 0) + said, order),
+    ]
     parts.append(block(0x0BAD, b"a block that nobody knows", order))
     for one in records(path):
         stamp = (one.moment - ahead * 10**9) // 10 ** (9 - resolution)
@@ -78,7 +81,7 @@ class Inputs(unittest.TestCase):
             ("pcapng", pcapng(INPUTS[1])),
             ("pcapng of the other order", pcapng(INPUTS[1], ">", ahead=1_600_000_000)),
             ("pcapng of microseconds", pcapng(INPUTS[1], resolution=6)),
-            ("two sections", pcapng(INPUTS[1])[:-0 or None] + block(0x0A0D0D0A, struct.pack("<IHHq", 0x1A2B3C4D, 1, 0, -1))),
+            ("two sections", pcapng(INPUTS[1])[: -0 or None] + block(0x0A0D0D0A, struct.pack("<IHHq", 0x1A2B3C4D, 1, 0, -1))),
             ("packed", gzip.compress(plain)),
             ("packed pcapng", gzip.compress(pcapng(INPUTS[1]))),
         ):
@@ -92,7 +95,12 @@ class Inputs(unittest.TestCase):
         while heads[-1] < len(plain):
             heads.append(heads[-1] + 16 + struct.unpack_from("<I", plain, heads[-1] + 8)[0])
         one, two = heads[5], heads[9]
-        for name, octets in (("z", plain[:one]), ("m.gz", gzip.compress(plain[:24] + plain[one:two])), ("a", plain[:24] + plain[two:]), (".hidden", b"?")):
+        for name, octets in (
+            ("z", plain[:one]),
+            ("m.gz", gzip.compress(plain[:24] + plain[one:two])),
+            ("a", plain[:24] + plain[two:]),
+            (".hidden", b"?"),
+        ):
             self.put(f"left/{name}", octets)
         self.same(f"{self.room}/left")
         checked = said(RENDAPIL, "check", INPUTS[0], f"{self.room}/left", INPUTS[2])
@@ -103,7 +111,9 @@ class Inputs(unittest.TestCase):
         status, text = self.run_with(f"{self.room}/left")
         self.assertEqual((status, text), (5, f"read failed: left_in\nrendapil: left_in, {self.room}/left: notes.txt in this folder is no capture\n"))
         os.mkdir(f"{self.room}/empty")
-        self.assertEqual(self.run_with(f"{self.room}/empty"), (5, f"read failed: left_in\nrendapil: left_in, {self.room}/empty: it is a folder without captures\n"))
+        self.assertEqual(
+            self.run_with(f"{self.room}/empty"), (5, f"read failed: left_in\nrendapil: left_in, {self.room}/empty: it is a folder without captures\n")
+        )
 
     def test_an_output_in_the_folder(self) -> None:
         """An output that is a file of the folder is refused, and stays as it is."""

@@ -56,7 +56,9 @@ static = []
         """A host of the left realm has a connection, of segments from these sides with these flags."""
         ends = ("10.0.0.%d" % host, "172.16.9.%d" % alias)
         for place, (side, flags) in enumerate(segments):
-            came, sent = (tcp(one, 4000, FAR, 80, flags, 1, 1) if side == 0 else tcp(FAR, 80, one, 4000, flags, 1, 1) for one in ends[:: 1 - 2 * side])
+            came, sent = (
+                tcp(one, 4000, FAR, 80, flags, 1, 1) if side == 0 else tcp(FAR, 80, one, 4000, flags, 1, 1) for one in ends[:: 1 - 2 * side]
+            )
             self.watch.line(side, second * SECOND + place, "pass", came, 1)
             self.watch.sent(1 - side, [memoryview(sent)])
 
@@ -80,7 +82,9 @@ static = []
         self.assertEqual(full, "pump: the right pool is 80 % full: 8 of 10 addresses")
         self.assertEqual([line.split(";")[-1] for line in others[:2]], [" 1 frames refused so far", " 3 frames refused so far"])
         self.assertEqual([line.split(" so far")[0] for line in others[2:]], ["pump: 1 frames not followed", "pump: 3 frames not followed"])
-        self.assertEqual(self.watch.counts(), "0 of 9 addresses of the left pool and 10 of 10 addresses of the right pool taken, 3 frames not followed")
+        self.assertEqual(
+            self.watch.counts(), "0 of 9 addresses of the left pool and 10 of 10 addresses of the right pool taken, 3 frames not followed"
+        )
 
     def test_lines_of_a_second(self) -> None:
         """Of one second so many lines are written, and the others are counted, also at the end."""
@@ -99,7 +103,11 @@ static = []
 
     def test_nobody_listens(self) -> None:
         """Where standard error has no reader, the gateway goes on."""
-        words = ["python3", "-c", f"import sys; sys.path.insert(0, '{TOP}/examples/live'); import aliases; [aliases.say('x') for _ in range(9)]; sys.stderr = None"]
+        words = [
+            "python3",
+            "-c",
+            f"import sys; sys.path.insert(0, '{TOP}/examples/live'); import aliases; [aliases.say('x') for _ in range(9)]; sys.stderr = None",
+        ]
         reader, writer = os.pipe()
         os.close(reader)
         self.assertEqual(subprocess.run(words, stderr=writer, check=False).returncode, 0)

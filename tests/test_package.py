@@ -51,7 +51,9 @@ class Installed(unittest.TestCase):
             with open(f"{TOP}/packaging/{name}", encoding="utf-8") as file:
                 known = file.read().replace("Fl -", "--")
             for command in ("check", "explain", "try", "fill", "plan", "compare", "export"):
-                options = set(re.findall(r"--[a-z][a-z-]+", said(f"{TOP}/rendapil", command, "--help")[1].partition("usage: ")[2].partition("\n\n")[0]))
+                options = set(
+                    re.findall(r"--[a-z][a-z-]+", said(f"{TOP}/rendapil", command, "--help")[1].partition("usage: ")[2].partition("\n\n")[0])
+                )
                 self.assertEqual({one for one in options if one not in known}, set(), f"{name}: {command}")
 
     @unittest.skipUnless(shutil.which("lowdown"), "there is no lowdown")
@@ -73,7 +75,12 @@ class Installed(unittest.TestCase):
 
     def test_completion(self) -> None:
         """It works where the package bash-completion isn't there."""
-        for words, wanted in (("rendapil pl", "plan"), ("rendapil try --po", "--pool"), ("rendapil help exp", "explain export"), ("rendapil try --pool 1", "")):
+        for words, wanted in (
+            ("rendapil pl", "plan"),
+            ("rendapil try --po", "--pool"),
+            ("rendapil help exp", "explain export"),
+            ("rendapil try --pool 1", ""),
+        ):
             place = len(words.split()) - 1
             script = f"source {TOP}/packaging/rendapil.bash; compopt() {{ :; }}; COMP_WORDS=({words}); COMP_CWORD={place}; _rendapil; echo ${{COMPREPLY[@]}}"
             self.assertEqual(said("bash", "--norc", "-c", script), (0, f"{wanted}\n"))

@@ -24,8 +24,16 @@ from test_explain import InRoom as ExplainRoom
 from test_try import HAS_SCAPY
 from test_try import InRoom as TryRoom
 
-STATICS = "\n".join(f'[[static]]\nside = "{side}"\nhost = "{host}"\nalias = "{alias}"' for side, host, alias in (
-    ("left", "10.0.0.5", "172.16.9.1"), ("left", "10.0.0.6", "172.16.9.6"), ("left", "10.0.0.7", "172.16.9.7"), ("right", "10.0.0.5", "192.168.200.1"), ("right", "10.0.0.9", "192.168.200.9")))
+STATICS = "\n".join(
+    f'[[static]]\nside = "{side}"\nhost = "{host}"\nalias = "{alias}"'
+    for side, host, alias in (
+        ("left", "10.0.0.5", "172.16.9.1"),
+        ("left", "10.0.0.6", "172.16.9.6"),
+        ("left", "10.0.0.7", "172.16.9.7"),
+        ("right", "10.0.0.5", "192.168.200.1"),
+        ("right", "10.0.0.9", "192.168.200.9"),
+    )
+)
 HOSTS = {"10.0.0.5": "172.16.9.1", "10.0.0.6": "172.16.9.6", "10.0.0.7": "172.16.9.7"}
 
 
@@ -93,9 +101,15 @@ class Finding(unittest.TestCase):
     def test_applications(self) -> None:
         """By port, and by what is said; what is known of each is told in words."""
         for protocol, port, far, payload, name in (
-            (UDP, 5060, 5060, b"", "SIP"), (UDP, 40000, 41000, b"INVITE sip:a SIP/2.0\r\n", "SIP"), (TCP, 40000, 8080, b"GET / HTTP/1.1\r\n", "HTTP"),
-            (TCP, 40000, 8080, b"\0\0", ""), (TCP, 40000, 21, b"\x16\x03\x01", "FTP over TLS"), (TCP, 40000, 2121, b"PORT 10,0,0,5,4,1\r\n", "FTP on another port than 21"),
-            (UDP, 40000, 161, b"\x30\x40\x02\x01\x03", "SNMP version 3"), (TCP, 40000, 443, b"\x16\x03\x01", "TLS"), (UDP, 40000, 41000, b"", ""),
+            (UDP, 5060, 5060, b"", "SIP"),
+            (UDP, 40000, 41000, b"INVITE sip:a SIP/2.0\r\n", "SIP"),
+            (TCP, 40000, 8080, b"GET / HTTP/1.1\r\n", "HTTP"),
+            (TCP, 40000, 8080, b"\0\0", ""),
+            (TCP, 40000, 21, b"\x16\x03\x01", "FTP over TLS"),
+            (TCP, 40000, 2121, b"PORT 10,0,0,5,4,1\r\n", "FTP on another port than 21"),
+            (UDP, 40000, 161, b"\x30\x40\x02\x01\x03", "SNMP version 3"),
+            (TCP, 40000, 443, b"\x16\x03\x01", "TLS"),
+            (UDP, 40000, 41000, b"", ""),
         ):
             self.assertEqual((name, application_of(protocol, port, far, payload)[0].name), (name, name))
         for one in APPLICATIONS:
@@ -107,19 +121,26 @@ class Evidence(unittest.TestCase):
 
     def test_text(self) -> None:
         """Each place with the alias, and that the address is another host there."""
-        rows = told_rows(scan_of(("10.0.0.5", 5060, 5060, b"INVITE sip:bob@192.168.200.1 SIP/2.0\r\nVia: SIP/2.0/UDP 10.0.0.5:5060\r\n\r\nc=IN IP4 10.0.0.6\r\n")))
+        rows = told_rows(
+            scan_of(("10.0.0.5", 5060, 5060, b"INVITE sip:bob@192.168.200.1 SIP/2.0\r\nVia: SIP/2.0/UDP 10.0.0.5:5060\r\n\r\nc=IN IP4 10.0.0.6\r\n"))
+        )
         self.assertEqual([(row.application, row.sure, row.frames, row.flows) for row in rows], [("SIP, UDP port 5060", "sure", 1, 1)])
-        self.assertEqual(rows[0].examples, [
-            "frame 1, left 10.0.0.5 to 192.168.200.1: Via: SIP/2.0/UDP 10.0.0.5, which the right realm knows as 172.16.9.1. There 10.0.0.5 is another host",
-            "frame 1, left 10.0.0.5 to 192.168.200.1: c=IN IP4 10.0.0.6, which the right realm knows as 172.16.9.6",
-            "frame 1, left 10.0.0.5 to 192.168.200.1: INVITE sip:bob@192.168.200.1, which the right realm knows as 10.0.0.5",
-        ])
+        self.assertEqual(
+            rows[0].examples,
+            [
+                "frame 1, left 10.0.0.5 to 192.168.200.1: Via: SIP/2.0/UDP 10.0.0.5, which the right realm knows as 172.16.9.1. There 10.0.0.5 is another host",
+                "frame 1, left 10.0.0.5 to 192.168.200.1: c=IN IP4 10.0.0.6, which the right realm knows as 172.16.9.6",
+                "frame 1, left 10.0.0.5 to 192.168.200.1: INVITE sip:bob@192.168.200.1, which the right realm knows as 10.0.0.5",
+            ],
+        )
 
     def test_roles(self) -> None:
         """What a realm's own name for a host of the other one means, and a private address without an alias. Public ones mean the same to all."""
         rows = told_rows(scan_of(("10.0.0.5", 999, 999, b"peers: 10.0.0.9 10.77.0.1 8.8.8.8 v10.0.0.6 Agent/10.99.1.2")))
-        self.assertEqual([one.split(". ", 1)[1] for one in rows[0].examples], [
-            "10.77.0.1 has no alias in the right realm", "So the right realm calls a host of its own, which the left one reaches only by an alias"])
+        self.assertEqual(
+            [one.split(". ", 1)[1] for one in rows[0].examples],
+            ["10.77.0.1 has no alias in the right realm", "So the right realm calls a host of its own, which the left one reaches only by an alias"],
+        )
 
     def test_vague(self) -> None:
         """What may be a version counts where it is an end of its datagram."""
@@ -170,7 +191,13 @@ class Evidence(unittest.TestCase):
         scan = Scan(lambda side, address: Meant(HOST, 1))
         for number in range(25_000):
             text = f"k{number} 10.{number >> 8 & 255}.{number & 255}.9".encode()
-            one = udp(f"10.{number >> 16}.{number >> 8 & 255}.{number & 255 or 1}", 1024 + number % 60_000, "11.0.0.1", 1024 + source.randrange(60_000), text)
+            one = udp(
+                f"10.{number >> 16}.{number >> 8 & 255}.{number & 255 or 1}",
+                1024 + number % 60_000,
+                "11.0.0.1",
+                1024 + source.randrange(60_000),
+                text,
+            )
             scan.take(number, number % 2, one, [one])
         self.assertLessEqual(len(scan._flows), scanning.FLOWS)
         self.assertLessEqual(len(scan.apps), scanning.APPS + len(APPLICATIONS) + 2)
@@ -179,9 +206,29 @@ class Evidence(unittest.TestCase):
     def test_hostile(self) -> None:
         """Whatever a payload is, nothing ends the scan, and what is told has no control characters."""
         source = random.Random(11)
-        parts = [b"\x1b]0;x\x07", b"10.0.0.5", b"10,0,0,5,1,2", b"in-addr.arpa", b"\x0a\0\0\x05", b"%2e", b".\0", b"1.0.\0", b"PORT ", b"\x21\x12\xa4\x42", b"\xff\x9b", bytes(30)]
+        parts = [
+            b"\x1b]0;x\x07",
+            b"10.0.0.5",
+            b"10,0,0,5,1,2",
+            b"in-addr.arpa",
+            b"\x0a\0\0\x05",
+            b"%2e",
+            b".\0",
+            b"1.0.\0",
+            b"PORT ",
+            b"\x21\x12\xa4\x42",
+            b"\xff\x9b",
+            bytes(30),
+        ]
         began = time.monotonic()
-        scan = scan_of(*((host, 5060, port, b"".join(source.choices(parts, k=30))) for _ in range(100) for host in HOSTS for port in (21, 53, 161, 3478, 5060, 6667)))
+        scan = scan_of(
+            *(
+                (host, 5060, port, b"".join(source.choices(parts, k=30)))
+                for _ in range(100)
+                for host in HOSTS
+                for port in (21, 53, 161, 3478, 5060, 6667)
+            )
+        )
         scan.take(1, 0, udp("10.0.0.5", 1, "192.168.200.1", 2, b"1." * 30_000), [])
         scan.take(1, 0, udp("10.0.0.5", 1, "192.168.200.1", 2, b"1\0.\0" * 15_000), [])
         scan.take(1, 0, udp("10.0.0.5", 1, "192.168.200.1", 2, b"\x0a\0" * 30_000), [])
@@ -204,7 +251,10 @@ class Fields(unittest.TestCase):
 
     def told(self, protocol: int, port: int, far_port: int, payload: bytes) -> list[tuple[str, str]]:
         """The applications and weights of a payload of 10.0.0.5."""
-        return [(row.application.partition(", TCP")[0].partition(", UDP")[0], row.weight) for row in told_rows(scan_of(("10.0.0.5", port, far_port, payload), protocol=protocol))]
+        return [
+            (row.application.partition(", TCP")[0].partition(", UDP")[0], row.weight)
+            for row in told_rows(scan_of(("10.0.0.5", port, far_port, payload), protocol=protocol))
+        ]
 
     def test_weights(self) -> None:
         """What receivers follow breaks; what they only read is told."""
@@ -213,7 +263,13 @@ class Fields(unittest.TestCase):
             (TCP, 4000, 80, b"GET / HTTP/1.1\r\nHost: x\r\nX-Forwarded-For: 10.0.0.5\r\n\r\n", [("HTTP", "tells")]),
             (TCP, 4000, 3128, b"CONNECT 10.0.0.6:443 HTTP/1.1\r\n\r\n", [("HTTP", "breaks")]),
             (TCP, 80, 4000, b"HTTP/1.1 200 OK\r\n\r\n<a href='http://10.0.0.6/'>", [("HTTP", "breaks")]),
-            (TCP, 4000, 5000, b"POST / HTTP/1.1\r\n\r\n<u:AddPortMapping xmlns:u='urn:schemas-upnp-org:x'><NewInternalClient>10.0.0.5</", [("SSDP, UPnP", "breaks")]),
+            (
+                TCP,
+                4000,
+                5000,
+                b"POST / HTTP/1.1\r\n\r\n<u:AddPortMapping xmlns:u='urn:schemas-upnp-org:x'><NewInternalClient>10.0.0.5</",
+                [("SSDP, UPnP", "breaks")],
+            ),
             (TCP, 4000, 5000, b"SUBSCRIBE /e HTTP/1.1\r\nCALLBACK: <http://10.0.0.5:9/>\r\n\r\n", [("SSDP, UPnP", "breaks")]),
             (TCP, 389, 4000, b"\x30\x40\x02\x01\x02\x65\x00 ldap://10.0.0.6/dc=a", [("LDAP", "breaks")]),
             (TCP, 389, 4000, b"\x30\x40\x02\x01\x02\x64\x00 ipHostNumber 10.0.0.6", [("LDAP", "tells")]),
@@ -245,7 +301,11 @@ class Fields(unittest.TestCase):
             (TCP, 445, 4000, SMB_HEAD + bytes(44) + "\\10.0.0.5\\s".encode("utf-16-le"), [("SMB", "tells")]),
             (UDP, 9999, 4000, bytes(12) + MAPPED + OWN, [("", "unsure")]),
         ):
-            found = [(("" if name.startswith(("TCP", "UDP")) else name), weight) for name, weight in self.told(protocol, port, far_port, payload) if weight != "hidden"]
+            found = [
+                (("" if name.startswith(("TCP", "UDP")) else name), weight)
+                for name, weight in self.told(protocol, port, far_port, payload)
+                if weight != "hidden"
+            ]
             self.assertEqual((payload[:60], found), (payload[:60], expected))
 
     def test_redirects(self) -> None:
@@ -254,7 +314,12 @@ class Fields(unittest.TestCase):
         for target, location, weight in ((b"/d", b"/d/", "tells"), (b"/d", b"/e", "breaks")):
             scan = Scan(meaning_in(table))
             ends, back = ("10.0.0.7", 4000, "192.168.200.9", 80), ("10.0.0.9", 80, "172.16.9.7", 4000)
-            scan.take(1, 0, tcp(*ends, 24, 1, 1, b"GET " + target + b" HTTP/1.1\r\nHost: 10.0.0.9\r\n\r\n"), [tcp("172.16.9.7", 4000, "10.0.0.9", 80, 24, 1, 1, b"")])
+            scan.take(
+                1,
+                0,
+                tcp(*ends, 24, 1, 1, b"GET " + target + b" HTTP/1.1\r\nHost: 10.0.0.9\r\n\r\n"),
+                [tcp("172.16.9.7", 4000, "10.0.0.9", 80, 24, 1, 1, b"")],
+            )
             answer = b"HTTP/1.1 301 Moved\r\nLocation: http://10.0.0.9" + location + b"\r\n\r\n"
             scan.take(2, 1, tcp(*back, 24, 1, 1, answer), [tcp("192.168.200.9", 80, "10.0.0.7", 4000, 24, 1, 1, answer)])
             self.assertEqual([row.weight for row in told_rows(scan)], [weight])
@@ -304,7 +369,13 @@ class Told(ExplainRoom):
         settings = self.write("s.toml", RIGHT + STATICS)
         frames = [udp("10.0.0.5", 5060, "192.168.200.1", 5060, b"REGISTER sip:b SIP/2.0\r\nContact: 10.0.0.5\r\n")]
         status, text = said(*CHECK, settings, self.write("l", capture(frames)), self.write("r", capture([])))
-        self.assertEqual((status, text.splitlines()[-1].split("left realm")[0].split("Contact")[0]), (1, f"{self.room}/l: payloads of SIP, UDP port 5060 carry addresses that the gateway leaves alone: frame 1, left 10.0.0.5 to 192.168.200.1: "))
+        self.assertEqual(
+            (status, text.splitlines()[-1].split("left realm")[0].split("Contact")[0]),
+            (
+                1,
+                f"{self.room}/l: payloads of SIP, UDP port 5060 carry addresses that the gateway leaves alone: frame 1, left 10.0.0.5 to 192.168.200.1: ",
+            ),
+        )
 
 
 @unittest.skipUnless(HAS_SCAPY and os.access(PROGRAM, os.X_OK), "there is no python3-scapy, or the program isn't built")
@@ -316,7 +387,12 @@ class Plan(TryRoom):
         frames = []
         for host in range(1, clients + 1):
             ends, back = (f"10.0.0.{host}", 4000, "10.0.0.200", 80), ("10.0.0.200", 80, f"10.0.0.{host}", 4000)
-            frames += [tcp(*ends, 2, 1, 0), tcp(*back, 18, 1, 2), tcp(*ends, 16, 2, 2), tcp(*ends, 24, 2, 2, b"GET / HTTP/1.1\r\nHost: 10.0.0.200\r\n\r\n")]
+            frames += [
+                tcp(*ends, 2, 1, 0),
+                tcp(*back, 18, 1, 2),
+                tcp(*ends, 16, 2, 2),
+                tcp(*ends, 24, 2, 2, b"GET / HTTP/1.1\r\nHost: 10.0.0.200\r\n\r\n"),
+            ]
             name_ends, name_back = (f"10.0.0.{host}", 5000, "10.0.0.53", 53), ("10.0.0.53", 53, f"10.0.0.{host}", 5000)
             frames += [udp(*name_ends, b"\0\1" + bytes(10)), udp(*name_back, b"\0\1" + bytes(10))]
         return self.write(name, capture(frames + more))
@@ -324,23 +400,41 @@ class Plan(TryRoom):
     def test_plan(self) -> None:
         """What overlaps, and settings with which hosts of both reach the servers of the other."""
         snmp = b"\x30\x1a\x02\x01\x00\x04\x01p\xa1\x12\x02\x01\x01\x02\x01\0\x02\x01\0\x30\x07\x06\x09\x2b\x06\x01\x02\x01\x04\x14\x01\x02"
-        left = self.firm("left.pcap", 20, [udp("10.0.0.1", 161, "10.0.0.2", 5001, snmp), udp("10.0.0.1", 1, "192.168.200.7", 2, b"x"), *fragments(udp("10.0.0.1", 1, "10.0.0.2", 2, bytes(80)), 48)])
+        left = self.firm(
+            "left.pcap",
+            20,
+            [
+                udp("10.0.0.1", 161, "10.0.0.2", 5001, snmp),
+                udp("10.0.0.1", 1, "192.168.200.7", 2, b"x"),
+                *fragments(udp("10.0.0.1", 1, "10.0.0.2", 2, bytes(80)), 48),
+            ],
+        )
         right = self.firm("right.pcap", 9, [udp("10.0.0.3", 5060, "10.0.0.4", 5060, b"INVITE sip:a SIP/2.0\r\nVia: 10.0.0.3\r\n")])
         out = f"{self.room}/plan.toml"
         status, text = said(*PLAN, left, right, "--out", out)
         self.assertEqual(status, 0, text)
-        for line in ("10.0.0.0/24                   22          11            11", "SIP, UDP port 5060: sure", "Via: 10.0.0.3. There 10.0.0.3 is another host", "DNS (40 frames)"):
+        for line in (
+            "10.0.0.0/24                   22          11            11",
+            "SIP, UDP port 5060: sure",
+            "Via: 10.0.0.3. There 10.0.0.3 is another host",
+            "DNS (40 frames)",
+        ):
             self.assertIn(line, text)
         with open(out, "rb") as file:
             settings = tomllib.load(file)
         self.assertEqual(said(*CHECK, out)[0], 0)
-        self.assertEqual([(row["side"], row["host"]) for row in settings["static"] if row["host"] in ("10.0.0.200", "10.0.0.53")], [(side, host) for side in ("right", "left") for host in ("10.0.0.53", "10.0.0.200")])
+        self.assertEqual(
+            [(row["side"], row["host"]) for row in settings["static"] if row["host"] in ("10.0.0.200", "10.0.0.53")],
+            [(side, host) for side in ("right", "left") for host in ("10.0.0.53", "10.0.0.200")],
+        )
         self.assertEqual((settings["fragments"], settings["oid"]), ("join", [{"prefix": "1.3.6.1.2.1.4.20.1", "skip": 1}]))
         pools = [IPv4Network(settings[side]["pool_first"] + "/24", strict=False) for side in ("left", "right")]
         self.assertFalse(any(pool.overlaps(IPv4Network("192.168.200.0/24")) for pool in pools), "a host of the left firm was seen there")
         aliases = {(row["side"], row["host"]): row["alias"] for row in settings["static"]}
         self.assertEqual({alias.rpartition(".")[2] for (_, host), alias in aliases.items() if host == "10.0.0.200"}, {"200"})
-        frames = [[udp(f"10.0.0.{host}", 9, aliases["right" if side == 0 else "left", "10.0.0.200"], 9, b"x") for host in range(1, 21)] for side in (0, 1)]
+        frames = [
+            [udp(f"10.0.0.{host}", 9, aliases["right" if side == 0 else "left", "10.0.0.200"], 9, b"x") for host in range(1, 21)] for side in (0, 1)
+        ]
         names = [self.write(name, capture(some)) for name, some in zip(("l", "r"), frames)]
         self.assertEqual(said(PROGRAM, "run", out, *names, *(f"{self.room}/{name}" for name in ("lo", "ro", "report")))[0], 0)
         with open(f"{self.room}/report", encoding="ascii") as file:
@@ -350,14 +444,22 @@ class Plan(TryRoom):
         """It writes over nothing but its own files, and says of a file that is none that it is none."""
         one = self.firm("one", 2, [])
         mine = self.write("mine.toml", b"# mine")
-        self.assertEqual(said(*PLAN, one, one, "--out", mine), (1, f"rendapil plan: {mine} is there and wasn't written by plan: give another name by --out\n"))
-        self.assertEqual(said(*PLAN, one, f"{self.room}/absent", "--out", f"{self.room}/new"), (1, f"rendapil plan: {self.room}/absent: No such file or directory\n"))
+        self.assertEqual(
+            said(*PLAN, one, one, "--out", mine), (1, f"rendapil plan: {mine} is there and wasn't written by plan: give another name by --out\n")
+        )
+        self.assertEqual(
+            said(*PLAN, one, f"{self.room}/absent", "--out", f"{self.room}/new"),
+            (1, f"rendapil plan: {self.room}/absent: No such file or directory\n"),
+        )
         status, text = said(*PLAN, one, self.write("none", b"\x1b[2J" * 9), "--out", f"{self.room}/new")
         self.assertEqual((status, text.isprintable() or text.count("\n")), (1, 1))
         self.assertFalse(os.path.exists(f"{self.room}/new"))
         self.assertEqual(said(*PLAN, one)[0], 2)
         public = self.write("public", capture([udp("9.0.0.1", 1, "9.0.0.2", 53, b"x"), udp("9.0.0.2", 53, "9.0.0.1", 1, b"x")]))
-        self.assertIn("no address of this capture is private: say which are the firm's own by --left BLOCK", said(*PLAN, public, one, "--out", f"{self.room}/new")[1])
+        self.assertIn(
+            "no address of this capture is private: say which are the firm's own by --left BLOCK",
+            said(*PLAN, public, one, "--out", f"{self.room}/new")[1],
+        )
         status, text = said(*PLAN, public, one, "--left", "9.0.0.0/24", "--out", f"{self.room}/new")
         self.assertEqual((status, "left: 2 hosts of its own spoke" in text, said(*CHECK, f"{self.room}/new")[0]), (0, True, 0))
         with open(f"{self.room}/new", "rb") as file:
@@ -371,12 +473,19 @@ class Cut(TryRoom):
     def cut_capture(self, frames: list[bytes], size: int) -> str:
         """A capture with a snap length."""
         head = struct.pack("<IHHiIII", 0xA1B2C3D4, 2, 4, 0, 0, size, 101)
-        return self.write("cut", head + b"".join(struct.pack("<IIII", second, 0, len(one[:size]), len(one)) + one[:size] for second, one in enumerate(frames, 1)))
+        return self.write(
+            "cut", head + b"".join(struct.pack("<IIII", second, 0, len(one[:size]), len(one)) + one[:size] for second, one in enumerate(frames, 1))
+        )
 
     def test_cut(self) -> None:
         """They are filled up where the gateway reads no payload, and refused else, or where that is asked for."""
         ends, back = ("10.1.0.5", 4000, "10.2.0.9", 80), ("10.2.0.9", 80, "10.1.0.5", 4000)
-        frames = [tcp(*ends, 24, 1, 1, bytes(range(200))), udp(*back, b"x" * 300), icmp("10.1.0.5", "10.2.0.9", 8, 0, bytes(200)), udp("10.1.0.5", 53, "10.2.0.9", 5000, bytes(200))]
+        frames = [
+            tcp(*ends, 24, 1, 1, bytes(range(200))),
+            udp(*back, b"x" * 300),
+            icmp("10.1.0.5", "10.2.0.9", 8, 0, bytes(200)),
+            udp("10.1.0.5", 53, "10.2.0.9", 5000, bytes(200)),
+        ]
         name = self.cut_capture(frames, 96)
         status, text = self.tried(name, "--left", "10.1.0.0/16")
         self.assertEqual((status, self.counts(text)), (0, {"pass": 3, "Snapped": 1}), text)
@@ -386,7 +495,12 @@ class Cut(TryRoom):
     def test_fill(self) -> None:
         """A head that was cut, a fragment and an ICMP error without its inner head stay."""
         whole = tcp("10.1.0.5", 4000, "10.2.0.9", 80, 24, 1, 1, bytes(100))
-        for octets, is_filled in ((whole[:40], True), (whole[:39], False), (udp("10.1.0.5", 1, "10.2.0.9", 2, bytes(50))[:27], False), (next(fragments(udp("10.1.0.5", 1, "10.2.0.9", 2, bytes(90)), 48))[:30], False)):
+        for octets, is_filled in (
+            (whole[:40], True),
+            (whole[:39], False),
+            (udp("10.1.0.5", 1, "10.2.0.9", 2, bytes(50))[:27], False),
+            (next(fragments(udp("10.1.0.5", 1, "10.2.0.9", 2, bytes(90)), 48))[:30], False),
+        ):
             self.assertEqual(fill(Packet(octets)), is_filled)
         packet = Packet(whole[:60])
         self.assertTrue(fill(packet))

@@ -19,7 +19,11 @@ from rendapil.planning.rehearsal import calls_of
 
 HAS_JINJA = bool(find_spec("jinja2")) or said("/usr/bin/python3", "-I", "-c", "import jinja2, tomllib")[0] == 0
 SYN, ACK = 2, 16
-ANSWER = struct.pack(">6H", 7, 0x8180, 1, 2, 0, 0) + b"\3www\5north\7example\0\0\1\0\1\xc0\x0c\0\5\0\1\0\0\0\x3c\0\x04\1w\xc0\x10" + b"\1w\xc0\x10\0\1\0\1\0\0\0\x3c\0\4\x0a\0\0\5"
+ANSWER = (
+    struct.pack(">6H", 7, 0x8180, 1, 2, 0, 0)
+    + b"\3www\5north\7example\0\0\1\0\1\xc0\x0c\0\5\0\1\0\0\0\x3c\0\x04\1w\xc0\x10"
+    + b"\1w\xc0\x10\0\1\0\1\0\0\0\x3c\0\4\x0a\0\0\5"
+)
 
 
 def capture(datagrams: Iterable[bytes], first: int = 1_700_000_000) -> bytes:
@@ -96,7 +100,14 @@ class Planned(unittest.TestCase):
         self.assertEqual(list(named_hosts(ANSWER)), [(0x0A000005, "w.north.example")])
         reverse = struct.pack(">6H", 7, 0x8180, 0, 1, 0, 0) + b"\0015\0010\0010\00210\7in-addr\4arpa\0\0\x0c\0\1\0\0\0\x3c\0\3\1p\0"
         self.assertEqual(list(named_hosts(reverse)), [(0x0A000005, "p")])
-        for wrong in (ANSWER.replace(b"\xc0\x10", b"\xc0\x0c"), ANSWER.replace(b"\1w", b"\1\x1b"), b"", ANSWER[:11], b"\xff" * 500, struct.pack(">6H", 7, 0x8180, 0, 1, 0, 0) + b"\xc0\x0c"):
+        for wrong in (
+            ANSWER.replace(b"\xc0\x10", b"\xc0\x0c"),
+            ANSWER.replace(b"\1w", b"\1\x1b"),
+            b"",
+            ANSWER[:11],
+            b"\xff" * 500,
+            struct.pack(">6H", 7, 0x8180, 0, 1, 0, 0) + b"\xc0\x0c",
+        ):
             self.assertEqual([name for _, name in named_hosts(wrong) if not name.isprintable()], [])
         for size in range(len(ANSWER)):
             self.assertEqual(list(named_hosts(ANSWER[:size])), [])
@@ -105,15 +116,37 @@ class Planned(unittest.TestCase):
         """Lists of nmap, DHCP servers and nfdump, as they write them."""
         address, other = 0x0A000007, 0x0A000008
         for name, text, wanted in (
-            ("nmap", "# Nmap 7.93 scan\nHost: 10.0.0.7 (web.north)\tStatus: Up\nHost: 10.0.0.7 (web.north)\tPorts: 22/open/tcp//ssh///, 80/closed/tcp//http///, 53/open/udp//domain///\tIgnored State: closed (9)\n",
-             [Listed(address, "web.north"), Listed(address, "web.north", ((6, 22), (17, 53)))]),
-            ("dnsmasq.leases", "1700000000 08:00:2b:02:3f:4e 10.0.0.7 printer 01:08:00\n1700000000 08:00:2b:02:3f:4f 10.0.0.8 * *\nduid 00:01\n", [Listed(address, "printer"), Listed(other, "")]),
-            ("dhcpd.leases", '# a comment\nlease 10.0.0.7 {\n  starts 2 2023/11/14;\n  client-hostname "printer";\n}\nlease 10.0.0.8 {\n}\n', [Listed(address, "printer"), Listed(other, "")]),
-            ("kea.csv", "address,hwaddr,client_id,hostname,state\n10.0.0.7,08:00,,printer.north,0\nfe80::1,08:00,,six,0\n10.0.0.8,08:00,,\x1b[2J,0\n", [Listed(address, "printer.north"), Listed(other, "")]),
+            (
+                "nmap",
+                "# Nmap 7.93 scan\nHost: 10.0.0.7 (web.north)\tStatus: Up\nHost: 10.0.0.7 (web.north)\tPorts: 22/open/tcp//ssh///, 80/closed/tcp//http///, 53/open/udp//domain///\tIgnored State: closed (9)\n",
+                [Listed(address, "web.north"), Listed(address, "web.north", ((6, 22), (17, 53)))],
+            ),
+            (
+                "dnsmasq.leases",
+                "1700000000 08:00:2b:02:3f:4e 10.0.0.7 printer 01:08:00\n1700000000 08:00:2b:02:3f:4f 10.0.0.8 * *\nduid 00:01\n",
+                [Listed(address, "printer"), Listed(other, "")],
+            ),
+            (
+                "dhcpd.leases",
+                '# a comment\nlease 10.0.0.7 {\n  starts 2 2023/11/14;\n  client-hostname "printer";\n}\nlease 10.0.0.8 {\n}\n',
+                [Listed(address, "printer"), Listed(other, "")],
+            ),
+            (
+                "kea.csv",
+                "address,hwaddr,client_id,hostname,state\n10.0.0.7,08:00,,printer.north,0\nfe80::1,08:00,,six,0\n10.0.0.8,08:00,,\x1b[2J,0\n",
+                [Listed(address, "printer.north"), Listed(other, "")],
+            ),
             ("hosts.csv", "Name,IP Address\nweb,10.0.0.7\n,10.0.0.8\n", [Listed(address, "web"), Listed(other, "")]),
-            ("flows.csv", "ts,te,td,sa,da,sp,dp,pr,flg\n1970-01-01 00:00:01,x,0.0,10.0.0.7,10.0.0.8,4000,443,TCP,....\n1970-01-01 00:00:02.500,x,0,10.0.0.8,10.0.0.7,0,8.0,ICMP,.\nSummary\nflows,bytes\n2,3\n",
-             [Flow(10**9, 6, address, 4000, other, 443), Flow(25 * 10**8, 1, other, 0, address, 8)]),
-            ("new.csv", "firstSeen,duration,proto,srcAddr,srcPort,dstAddr,dstPort,packets,bytes,flows\n1970-01-01 00:00:01,0,UDP,10.0.0.7,4000,10.0.0.8,53,1,2,1\n", [Flow(10**9, 17, address, 4000, other, 53)]),
+            (
+                "flows.csv",
+                "ts,te,td,sa,da,sp,dp,pr,flg\n1970-01-01 00:00:01,x,0.0,10.0.0.7,10.0.0.8,4000,443,TCP,....\n1970-01-01 00:00:02.500,x,0,10.0.0.8,10.0.0.7,0,8.0,ICMP,.\nSummary\nflows,bytes\n2,3\n",
+                [Flow(10**9, 6, address, 4000, other, 443), Flow(25 * 10**8, 1, other, 0, address, 8)],
+            ),
+            (
+                "new.csv",
+                "firstSeen,duration,proto,srcAddr,srcPort,dstAddr,dstPort,packets,bytes,flows\n1970-01-01 00:00:01,0,UDP,10.0.0.7,4000,10.0.0.8,53,1,2,1\n",
+                [Flow(10**9, 17, address, 4000, other, 53)],
+            ),
         ):
             with self.subTest(name):
                 self.assertEqual(list(inventory(self.put(name, text))), wanted)
@@ -121,7 +154,10 @@ class Planned(unittest.TestCase):
     def test_plan_of_lists(self) -> None:
         """Hosts of lists get pools and statics as those of captures do."""
         found = "".join(f"Host: 10.0.0.{last} ()\tPorts: 22/open/tcp//ssh///\n" for last in range(1, 201))
-        flows = "ts,te,td,sa,da,sp,dp,pr\n" + "".join(f"2023-11-14 22:13:20,x,0,10.0.0.{last},10.0.0.5,4000,443,TCP\n2023-11-14 22:13:20,x,0,10.0.0.5,10.0.0.{last},443,4000,TCP\n" for last in range(10, 20))
+        flows = "ts,te,td,sa,da,sp,dp,pr\n" + "".join(
+            f"2023-11-14 22:13:20,x,0,10.0.0.{last},10.0.0.5,4000,443,TCP\n2023-11-14 22:13:20,x,0,10.0.0.5,10.0.0.{last},443,4000,TCP\n"
+            for last in range(10, 20)
+        )
         status, text = self.plan(self.put("found", found), self.put("flows", flows))
         self.assertEqual(status, 0, text)
         self.assertIn("left: 200 hosts of its own spoke, or stand in a list, 200 of them serve others", text)
@@ -140,12 +176,17 @@ class Planned(unittest.TestCase):
         """Where there are too many, each client calls some services, and each service is called."""
         offers = [(host, host, 6, 80) for host in range(100)]
         calls = list(calls_of(0, list(range(10_000)), offers))
-        self.assertEqual((len(calls), {call.client for call in calls}, {call.server for call in calls}), (60_000, set(range(10_000)), set(range(100))))
+        self.assertEqual(
+            (len(calls), {call.client for call in calls}, {call.server for call in calls}), (60_000, set(range(10_000)), set(range(100)))
+        )
 
     @unittest.skipUnless(HAS_JINJA, "there is no python3-jinja2")
     def test_page_over_other_files(self) -> None:
         """A page is never written over what is read, nor over the settings."""
-        for page, why in ((self.right, "is a file that is read, and would be overwritten"), (self.settings, "is to have the settings, and the page too")):
+        for page, why in (
+            (self.right, "is a file that is read, and would be overwritten"),
+            (self.settings, "is to have the settings, and the page too"),
+        ):
             status, text = self.plan(self.left, self.right, "--html", page)
             self.assertEqual((status, why in text), (1, True), text)
         self.assertEqual(Path(self.right).read_bytes(), capture(self.south))
@@ -155,7 +196,15 @@ class Planned(unittest.TestCase):
     def test_page(self) -> None:
         """It has both names of each server, a cell for each host, and nothing of a capture goes in unescaped."""
         page = f"{self.room}/page.html"
-        evil = self.put("<img src=x>", capture([*self.north, udp("10.0.0.30", 5060, "10.0.0.6", 5060, b"INVITE sip:x SIP/2.0\r\nContact: <sip:<script>alert(1)</script>@10.0.0.30>\r\n")]))
+        evil = self.put(
+            "<img src=x>",
+            capture(
+                [
+                    *self.north,
+                    udp("10.0.0.30", 5060, "10.0.0.6", 5060, b"INVITE sip:x SIP/2.0\r\nContact: <sip:<script>alert(1)</script>@10.0.0.30>\r\n"),
+                ]
+            ),
+        )
         self.assertEqual(self.plan(evil, self.right, "--html", page)[0], 0)
         text = Path(page).read_text("utf-8")
         self.assertNotRegex(text, "<script|<img")
@@ -183,7 +232,9 @@ class Planned(unittest.TestCase):
                 self.assertFalse(os.path.exists(self.settings))
         self.assertEqual(self.plan(self.left), (2, "rendapil plan: the right side has no file: name a capture or a list of hosts of each network\n"))
         status, text = self.plan(self.put("cut", capture(self.north)[:-5]), self.right)
-        self.assertEqual((status, text.splitlines()[0]), (0, f"left: {self.room}/cut is damaged behind frame {len(self.north) - 1}: it ends within a record"))
+        self.assertEqual(
+            (status, text.splitlines()[0]), (0, f"left: {self.room}/cut is damaged behind frame {len(self.north) - 1}: it ends within a record")
+        )
 
     def test_both_firms_in_one(self) -> None:
         """An address that two network cards have is told."""

@@ -76,7 +76,9 @@ class Script(unittest.TestCase):
     def told(self, *words: str, line: str = "", status: int = 0, **more: str) -> tuple[int, str]:
         """Status and output of the script, where the program says this line and has this status."""
         names = {"PATH": f"{self.room}/bin:{os.environ['PATH']}", "LINE": line, "STATUS": str(status), **more}
-        done = subprocess.run([f"{self.top}/rendapil", *words], env={**os.environ, **names}, cwd=self.room, capture_output=True, text=True, check=False)
+        done = subprocess.run(
+            [f"{self.top}/rendapil", *words], env={**os.environ, **names}, cwd=self.room, capture_output=True, text=True, check=False
+        )
         return done.returncode, done.stdout + done.stderr
 
     def run_words(self, **changed: str) -> list[str]:
@@ -159,7 +161,9 @@ class Script(unittest.TestCase):
         keep = ("env", f"PATH={self.room}/bin:{os.environ['PATH']}", f"PYTHONPATH={self.top}/python", "python3", "-m", "rendapil.program")
         self.assertEqual(said(*keep, "--write", self.program), (0, ""))
         self.assertIn("proof: it is, byte for byte, the program that kit 1 proved from this code\n", self.told("--version")[1])
-        self.assertEqual(said(*keep, "--check", self.program), (0, "PROVED-PROGRAM names the program, the code and the kit, and prebuilt/ has the program\n"))
+        self.assertEqual(
+            said(*keep, "--check", self.program), (0, "PROVED-PROGRAM names the program, the code and the kit, and prebuilt/ has the program\n")
+        )
         self.assertEqual(said(*keep, "--check", self.source)[0], 1)
         os.remove(f"{self.program}.made")
         self.assertEqual(self.told(*self.run_words()), (0, ""))
@@ -203,7 +207,11 @@ class Script(unittest.TestCase):
         """A file that is cut, foreign or not executable is told and never run: the program is built, or the command ends where it can't be."""
         self.come_with_checkout()
         whole = Path(self.prebuilt).read_bytes()
-        for octets, mode, why in ((whole[:-1], 0o755, "isn't the program that"), (b"\x7fELF", 0o755, "isn't the program that"), (whole, 0o644, "may not be run: chmod +x ")):
+        for octets, mode, why in (
+            (whole[:-1], 0o755, "isn't the program that"),
+            (b"\x7fELF", 0o755, "isn't the program that"),
+            (whole, 0o644, "may not be run: chmod +x "),
+        ):
             self.write(self.prebuilt, octets)
             os.chmod(self.prebuilt, mode)
             code, text = self.told(*self.run_words(), PATH="/usr/bin:/bin")
@@ -332,13 +340,23 @@ class Script(unittest.TestCase):
             ({"report": "/"}, "open failed: report", 7, "report, /: Is a directory. The outputs in front of it are empty now"),
             ({"right_in": packed}, magic, 4, f"right_in, {packed}: it is packed by xz: xz -dc {packed} >NEW"),
             ({"right_in": INPUTS[0]}, magic, 4, f"right_in, {INPUTS[0]}: it is text. Are the words in their order?"),
-            ({"right_in": cooked}, link, 4, f"right_in, {cooked}: it has link type 113, as tcpdump -i any gives it: editcap -F pcap -L -C 16 -T rawip {cooked} NEW"),
+            (
+                {"right_in": cooked},
+                link,
+                4,
+                f"right_in, {cooked}: it has link type 113, as tcpdump -i any gives it: editcap -F pcap -L -C 16 -T rawip {cooked} NEW",
+            ),
             ({"report": "/dev/full"}, "write failed: report", 6, "report, /dev/full: it takes no more. All outputs are cut"),
             ({"left_out": "-", "report": "-"}, "usage: run", 2, "left_out: - can be one input alone, and one output alone. Write ./- for a file"),
             ({"left_in": "-n"}, "usage: run", 2, "left_in: write ./-n for a file"),
             ({"left_in": "a\udcff"}, "usage: run", 2, r"left_in: the name $'a\377' isn't UTF-8"),
             ({"left_in": empty}, "capture left: NoHead at 0", 4, f"left_in, {empty}: it is empty"),
-            ({"left_in": torn}, "capture left: Torn at 24", 4, f"left_in, {torn}: it ends within a record. The frames before that went out, and the report has no last line"),
+            (
+                {"left_in": torn},
+                "capture left: Torn at 24",
+                4,
+                f"left_in, {torn}: it ends within a record. The frames before that went out, and the report has no last line",
+            ),
             ({"left_in": "\x1b[2J"}, "open failed: left_in", 7, r"left_in, $'\E[2J': No such file or directory"),
         ):
             self.assertEqual(self.told(*self.run_words(**changed), line=line, status=status), (status, f"{line}\nrendapil: {more}\n"))
@@ -388,7 +406,9 @@ class Script(unittest.TestCase):
         waits = f"{self.room}/waits"
         os.mkfifo(waits)
         names = {"PATH": f"{self.room}/bin:{os.environ['PATH']}", "LINE": "", "STATUS": "0"}
-        first = subprocess.Popen([f"{self.top}/rendapil", *self.run_words(left_in=waits, right_out="shared")], env={**os.environ, **names}, cwd=self.room)
+        first = subprocess.Popen(
+            [f"{self.top}/rendapil", *self.run_words(left_in=waits, right_out="shared")], env={**os.environ, **names}, cwd=self.room
+        )
         with open(waits, "wb"):  # it is open as soon as the first run reads
             code, text = self.told(*self.run_words(left_out="other", right_out="shared", report="another"))
             self.assertEqual((code, text.splitlines()[0]), (7, "open failed: right_out"))

@@ -129,7 +129,9 @@ class Order(InRoom):
             ([*range(1000, 1500), *range(1, 500)], [*range(1000, 1500), *range(1, 500)]),
             ([4000000000, *range(1, 500)], [*range(1, 500), 4000000000]),
         ):
-            whole = struct.pack("<IHHiIII", 0xA1B2C3D4, 2, 4, 0, 0, 262144, 101) + b"".join(struct.pack("<IIII", second, 0, 1, 1) + b"x" for second in seconds)
+            whole = struct.pack("<IHHiIII", 0xA1B2C3D4, 2, 4, 0, 0, 262144, 101) + b"".join(
+                struct.pack("<IIII", second, 0, 1, 1) + b"x" for second in seconds
+            )
             self.assertEqual([one.moment // 10**9 for one in records(self.write("capture", whole))], expected)
 
 
@@ -147,7 +149,12 @@ class Try(InRoom):
         for name in ("pcapng", "two tags"):
             status, text = self.tried(f"{self.room}/{name}", "--left", "10.1.0.0/16")
             self.assertEqual((status, self.counts(text)), (0, {"pass": 7}), text)
-            for line in ("7 frames go to the gateway, 4 of the left realm and 3 of the right one.", "7 of 7 frames that go to the gateway pass.", "1  frame with a checksum that was mended", "1  line of FTP that the"):
+            for line in (
+                "7 frames go to the gateway, 4 of the left realm and 3 of the right one.",
+                "7 of 7 frames that go to the gateway pass.",
+                "1  frame with a checksum that was mended",
+                "1  line of FTP that the",
+            ):
                 self.assertIn(line, text)
             with open(f"{self.room}/out/left.pcap", "rb") as left, open(f"{self.room}/out/right.pcap", "rb") as right:
                 self.assertEqual(lines[0], f"4 3 1 1 {hashlib.sha256(left.read() + right.read()).hexdigest()}")
@@ -169,12 +176,22 @@ class Try(InRoom):
 
     def test_through_a_pipe(self) -> None:
         """A capture may come from standard input."""
-        done = subprocess.run([*TRY, "-", "--left", "10.1.0.0/16", "--out", f"{self.room}/out", "--program", PROGRAM], input=capture(login()), capture_output=True, check=False)
+        done = subprocess.run(
+            [*TRY, "-", "--left", "10.1.0.0/16", "--out", f"{self.room}/out", "--program", PROGRAM],
+            input=capture(login()),
+            capture_output=True,
+            check=False,
+        )
         self.assertEqual((done.returncode, b"7  pass" in done.stdout), (0, True))
 
     def test_what_is_left_out(self) -> None:
         """Each frame that doesn't cross is told with its reason, and wrong checksums are kept where that is asked for."""
-        others = [udp("10.1.0.5", 1, "10.1.0.6", 2, b"x"), udp("10.1.0.5", 1, "10.1.255.255", 2, b"x"), udp("10.1.0.5", 1, "224.0.0.1", 2, b"x"), b"\x60" + bytes(39)]
+        others = [
+            udp("10.1.0.5", 1, "10.1.0.6", 2, b"x"),
+            udp("10.1.0.5", 1, "10.1.255.255", 2, b"x"),
+            udp("10.1.0.5", 1, "224.0.0.1", 2, b"x"),
+            b"\x60" + bytes(39),
+        ]
         others += [udp("10.2.0.5", 1, "10.2.0.6", 2, b"x"), udp("9.9.9.9", 1, "9.9.9.8", 2, b"x")]
         name = self.write("capture", capture(login() + others))
         status, text = self.tried(name, "--left", "10.1.0.5/32", "10.1.0.6/32", "10.1.255.255/32", "--same", "9.9.9.0/24", "--keep-sums")
@@ -209,7 +226,11 @@ class Try(InRoom):
             name = b"\x03%d\x03211\x03158\x03216\x07in-addr\x04arpa\0" % (number + 140)
             question = struct.pack(">6H", number, 0, 1, 0, 0, 0) + name + struct.pack(">HH", 12, 1)
             one, other = (struct.pack(">H", len(part)) + part for part in (question, question[:2] + b"\x80" + question[3:]))
-            frames += [tcp(*ends, 24, ask, answer, one), tcp(*back, 24, answer, ask + len(one), other), tcp(*ends, 16, ask + len(one), answer + len(other))]
+            frames += [
+                tcp(*ends, 24, ask, answer, one),
+                tcp(*back, 24, answer, ask + len(one), other),
+                tcp(*ends, 16, ask + len(one), answer + len(other)),
+            ]
             ask, answer = ask + len(one), answer + len(other)
         name = self.write("capture", capture(frames))
         self.assertEqual(self.counts(self.tried(name, "--left", "10.1.0.0/16")[1]), {"pass": len(frames)})
@@ -225,7 +246,13 @@ class Try(InRoom):
         frames = []
         for host in range(1, 30):
             ends, back = (f"10.1.0.{host}", 4000, "10.2.0.9", 80), ("10.2.0.9", 80, f"10.1.0.{host}", 4000)
-            frames += [tcp(*ends, 2, 100, 0), tcp(*back, 18, 200, 101), tcp(*ends, 16, 101, 201), icmp(ends[0], back[0], 8, 0, bytes(8)), icmp(back[0], ends[0], 0, 0, bytes(8))]
+            frames += [
+                tcp(*ends, 2, 100, 0),
+                tcp(*back, 18, 200, 101),
+                tcp(*ends, 16, 101, 201),
+                icmp(ends[0], back[0], 8, 0, bytes(8)),
+                icmp(back[0], ends[0], 0, 0, bytes(8)),
+            ]
         name = self.write("capture", capture(frames))
         status, text = self.tried(name, "--left", "10.1.0.0/16", "--pool", "29")
         self.assertEqual((status, self.counts(text)), (0, {"pass": len(frames)}), text)
@@ -246,7 +273,11 @@ class Try(InRoom):
         whole = udp("10.1.0.5", 4000, "10.2.0.9", 4001, bytes(100))
         name = self.write("capture", capture([*fragments(whole, 48), *list(fragments(udp("10.1.0.6", 4000, "10.2.0.9", 4001, bytes(100)), 48))[:1]]))
         text = self.tried(name, "--left", "10.1.0.0/16")[1]
-        for line in ("1 of 4 frames that go to the gateway passes, and 2 went out as parts of these.", "2  held: fragments that waited", "1  lost: fragments that were held, whose packet never went out"):
+        for line in (
+            "1 of 4 frames that go to the gateway passes, and 2 went out as parts of these.",
+            "2  held: fragments that waited",
+            "1  lost: fragments that were held, whose packet never went out",
+        ):
             self.assertIn(line, text)
 
     def test_kinds_of_frames(self) -> None:
@@ -287,11 +318,23 @@ class Try(InRoom):
 
     def test_names(self) -> None:
         """DNS answers that the gateway changes are counted and named; public addresses aren't changed."""
+
         def answer(address: str) -> bytes:
             name = b"\x01w\x04corp\x04test\0"
-            return struct.pack(">6H", 7, 0x8180, 1, 1, 0, 0) + name + struct.pack(">HH", 1, 1) + b"\xc0\x0c" + struct.pack(">HHIH", 1, 1, 60, 4) + bytes(map(int, address.split(".")))
+            return (
+                struct.pack(">6H", 7, 0x8180, 1, 1, 0, 0)
+                + name
+                + struct.pack(">HH", 1, 1)
+                + b"\xc0\x0c"
+                + struct.pack(">HHIH", 1, 1, 60, 4)
+                + bytes(map(int, address.split(".")))
+            )
+
         ends = ("10.2.0.53", 53, "10.1.0.5", 4000)
-        frames = [udp("10.1.0.5", 4000, "10.2.0.53", 53, answer("10.2.0.9")[:2] + b"\1\0\0\1" + bytes(6) + b"\x01w\x04corp\x04test\0\0\1\0\1"), udp(*ends, answer("10.2.0.9"))]
+        frames = [
+            udp("10.1.0.5", 4000, "10.2.0.53", 53, answer("10.2.0.9")[:2] + b"\1\0\0\1" + bytes(6) + b"\x01w\x04corp\x04test\0\0\1\0\1"),
+            udp(*ends, answer("10.2.0.9")),
+        ]
         text = self.tried(self.write("capture", capture(frames)), "--left", "10.1.0.0/16")[1]
         self.assertIn("DNS answers that the gateway changed: 1\n       1  corp.test: w.corp.test 10.2.0.9 became 192.168.200.", text)
         text = self.tried(self.write("public", capture([frames[0], udp(*ends, answer("8.8.8.8"))])), "--left", "10.1.0.0/16")[1]
@@ -299,9 +342,15 @@ class Try(InRoom):
 
     def test_fill(self) -> None:
         """`fill` gives `run` whole frames, and says what it can't fill."""
-        frames = [tcp("10.1.0.5", 4000, "10.2.0.9", 80, 24, 1, 1, bytes(200)), udp("10.1.0.5", 53, "10.2.0.9", 5000, bytes(200)), udp("10.1.0.5", 1, "10.2.0.9", 2, b"x")]
+        frames = [
+            tcp("10.1.0.5", 4000, "10.2.0.9", 80, 24, 1, 1, bytes(200)),
+            udp("10.1.0.5", 53, "10.2.0.9", 5000, bytes(200)),
+            udp("10.1.0.5", 1, "10.2.0.9", 2, b"x"),
+        ]
         head = struct.pack("<IHHiIII", 0xA1B2C3D4, 2, 4, 0, 0, 96, 101)
-        name = self.write("cut", head + b"".join(struct.pack("<IIII", second, 0, len(one[:96]), len(one)) + one[:96] for second, one in enumerate(frames, 1)))
+        name = self.write(
+            "cut", head + b"".join(struct.pack("<IIII", second, 0, len(one[:96]), len(one)) + one[:96] for second, one in enumerate(frames, 1))
+        )
         status, text = said(f"{TOP}/rendapil", "fill", name, f"{self.room}/new")
         self.assertEqual((status, re.findall(r"(?m)^ +(\d) +frame (\w+)", text)), (0, [("1", "filled"), ("1", "cut"), ("1", "whole")]), text)
         kept = list(records(f"{self.room}/new"))
@@ -333,7 +382,20 @@ class Try(InRoom):
             name = self.write("a\x1b[2J", octets)
             status, text = said(*TRY, name)
             self.assertEqual((status, text.count("\n"), text.startswith(f"rendapil try: {self.room}/a\\x1b[2J {line}")), (1, 1, True), text)
-        status, text = said("bash", "-c", 'ulimit -v 1000000; exec "$@"', "bash", *TRY, self.write("long", long), "--left", "10.1.0.0/16", "--out", f"{self.room}/out", "--program", PROGRAM)
+        status, text = said(
+            "bash",
+            "-c",
+            'ulimit -v 1000000; exec "$@"',
+            "bash",
+            *TRY,
+            self.write("long", long),
+            "--left",
+            "10.1.0.0/16",
+            "--out",
+            f"{self.room}/out",
+            "--program",
+            PROGRAM,
+        )
         self.assertIn("no frame of", text)
         self.assertNotIn("Traceback", text)
         self.assertEqual(said(*TRY, f"{self.room}/absent"), (1, f"rendapil try: {self.room}/absent: No such file or directory\n"))

@@ -8,52 +8,57 @@ Then `rt fmt` in that crate indents the lines.
 A case is a folder with settings.toml, left.pcap, right.pcap, report.txt, left_out.pcap and right_out.pcap. Each event
 becomes a frame in hexadecimal, and what is wanted of it: its verdict, and the datagrams that go out.
 """
-import os
+import heapq
 import re
-import struct
 import sys
-import tomllib
+from collections.abc import Iterator
+from pathlib import Path
+from typing import NamedTuple
+
+sys.path.insert(0, str(Path(__file__).resolve().parent.parent / "python"))
+from rendapil.bindings import SIDES, pool_of  # noqa: E402
+from rendapil.document import Document, document_in  # noqa: E402
+from rendapil.files import ETHERNET, Capture, Frame  # noqa: E402
 
 WIDTH = 150  # columns of a line
 PIECE = 56  # octets of a line
-MAGICS = {b"\xa1\xb2\xc3\xd4": (">", 1000), b"\xd4\xc3\xb2\xa1": ("<", 1000), b"\xa1\xb2\x3c\x4d": (">", 1), b"\x4d\x3c\xb2\xa1": ("<", 1)}
 
 
-def capture(path):
-    octets = open(path, "rb").read()
-    order, unit = MAGICS[octets[:4]]
-    link = struct.unpack(order + "I", octets[20:24])[0]
-    records, place = [], 24
-    while place + 16 <= len(octets):
-        seconds, fraction, kept, original = struct.unpack(order + "IIII", octets[place:place + 16])
-        records.append((seconds * 10**9 + fraction * unit, kept >= original, octets[place + 16:place + 16 + kept]))
-        place += 16 + kept
-    return link, records
+class Event(NamedTuple):
+    """A frame with the side that it comes from, and the moment at which the gateway takes it."""
+
+    side: int
+    moment: int
+    frame: Frame
 
 
-def events(left, right):
-    clock, a, b = 0, 0, 0
-    while a < len(left[1]) or b < len(right[1]):
-        from_left = b >= len(right[1]) or (a < len(left[1]) and left[1][a][0] <= right[1][b][0])
-        side, link = ("Left", left[0]) if from_left else ("Right", right[0])
-        stamp, whole, octets = left[1][a] if from_left else right[1][b]
-        a, b = a + from_left, b + (not from_left)
-        clock = max(clock, stamp)
-        yield side, clock, "Ethernet" if link == 1 else "Raw", whole, octets
+def frames_in(path: Path) -> list[Frame]:
+    """The frames of a capture."""
+    with Capture(str(path)) as capture:
+        return list(capture.frames())
 
 
-def hexed(octets):
+def events(left: list[Frame], right: list[Frame]) -> Iterator[Event]:
+    """The frames of both captures in the order in which the gateway takes them."""
+    clock = 0
+    for side, frame in heapq.merge([(0, one) for one in left], [(1, one) for one in right], key=lambda one: one[1].moment):
+        clock = max(clock, frame.moment)
+        yield Event(side, clock, frame)
+
+
+def hexed(octets: bytes) -> str:
+    """Octets in hexadecimal."""
     return "hex %d 0x%s" % (len(octets), octets.hex()) if octets else "[]"
 
 
-def pieces(octets, indent):
+def pieces(octets: bytes, indent: str) -> str:
     """Octets in hexadecimal, those of many on lines of their own."""
     if len(octets) <= PIECE:
         return hexed(octets)
-    return "(%s)" % (indent + "++ ").join(hexed(octets[n:n + PIECE]) for n in range(0, len(octets), PIECE))
+    return f"({(indent + '++ ').join(hexed(octets[at : at + PIECE]) for at in range(0, len(octets), PIECE))})"
 
 
-def narrow(line):
+def narrow(line: str) -> str:
     """A line that is too wide, broken: between the words of a row, and within octets."""
     if len(line) <= WIDTH:
         return line
@@ -65,68 +70,74 @@ def narrow(line):
     line = re.sub(r"hex \d+ 0x([0-9a-f]+)", lambda found: pieces(bytes.fromhex(found[1]), deep + "  "), line)
     line = re.sub(r"\(\((hex[^()]+)\)\)", r"(\1)", line)
     for words in (r" (?=\(passes \(|\(refused )", r" (?=\(hex)", r" (?=∷ \(?hex)"):
-        line = "\n".join(re.sub(words, lambda found: found[0].rstrip() + deep, part) if len(part) > WIDTH else part for part in line.split("\n"))
+        line = "\n".join(re.sub(words, deep, part) if len(part) > WIDTH else part for part in line.split("\n"))
     return line
 
 
-def listed(items, indent):
-    return "".join("%s%s%s\n" % (indent, "∷ " if n else "", item) for n, item in enumerate(list(items) + ["[]"]))
+def listed(items: list[str], indent: str) -> str:
+    """A list with a line for each item."""
+    return "".join(f"{indent}{'∷ ' if number else ''}{item}\n" for number, item in enumerate([*items, "[]"]))
 
 
-def quad(text):
+def joined(items: list[str]) -> str:
+    """A list on one line."""
+    return " ∷ ".join([*items, "[]"])
+
+
+def quad(text: str) -> str:
+    """An address as a number."""
     return "0x%02x%02x%02x%02x" % tuple(int(part) for part in text.split("."))
 
 
-def settings(table):
-    blocks = ["block %s %s" % (quad(b.split("/")[0]), b.split("/")[1]) for b in table.get("same", [])]
-    statics = ["fixed %s %s %s" % (s["side"].capitalize(), quad(s["host"]), quad(s["alias"])) for s in table.get("static", [])]
-    pools = ["(pool %s %s)" % (quad(table[s]["pool_first"]), quad(table[s]["pool_last"])) for s in ("left", "right")]
-    rules = ["rule (%s ∷ []) %d" % (o["prefix"].replace(".", " ∷ "), o["skip"]) for o in table.get("oid", [])]
-    text = "set (%s) %s %s (%s)" % (" ∷ ".join(blocks + ["[]"]), pools[0], pools[1], " ∷ ".join(statics + ["[]"]))
-    return "with_rules (%s) (%s)" % (" ∷ ".join(rules + ["[]"]), text) if rules else text
+def settings(document: Document) -> str:
+    """Settings as words of RowWords."""
+    blocks = [f"block {quad(one.split('/')[0])} {one.split('/')[1]}" for one in document.get("same", [])]
+    statics = [f"fixed {one['side'].capitalize()} {quad(one['host'])} {quad(one['alias'])}" for one in document.get("static", [])]
+    left, right = (f"(pool {first:#010x} {last:#010x})" for first, last in (pool_of(document, side) for side in SIDES))
+    rules = [f"rule ({one['prefix'].replace('.', ' ∷ ')} ∷ []) {one['skip']}" for one in document.get("oid", [])]
+    text = f"set ({joined(blocks)}) {left} {right} ({joined(statics)})"
+    return f"with_rules ({joined(rules)}) ({text})" if rules else text
 
 
-def case(folder, name):
-    at = lambda file: os.path.join(folder, name, file)
-    table = tomllib.load(open(at("settings.toml"), "rb"))
-    left, right = capture(at("left.pcap")), capture(at("right.pcap"))
-    lines = open(at("report.txt")).read().split("\n")
-    outs = {"Left": iter(capture(at("right_out.pcap"))[1]), "Right": iter(capture(at("left_out.pcap"))[1])}
-    far = {"Left": "right", "Right": "left"}
-    rows, refusals, pending = [], set(), 0
-    for (side, moment, link, whole, octets), line in zip(events(left, right), lines):
+def row(event: Event, verdict: str, gone: list[bytes]) -> str:
+    """A frame with what is wanted of it."""
+    link, whole = "Ethernet" if event.frame.link == ETHERNET else "Raw", str(len(event.frame.octets) >= event.frame.length).lower()
+    wanted = f"passes ({joined([hexed(one) for one in gone])})" if verdict == "pass" else f"refused {verdict}"
+    return f"frame {SIDES[event.side].capitalize()} {event.moment} {link} {whole} ({hexed(event.frame.octets)}) ({wanted})"
+
+
+def case(folder: Path, name: str) -> tuple[str, set[str]]:
+    """The text of a case, and the reasons of refusals that it names."""
+    document = document_in((folder / "settings.toml").read_text("utf-8"))
+    lines = (folder / "report.txt").read_text("utf-8").splitlines()
+    outs = [iter(frames_in(folder / file)) for file in ("right_out.pcap", "left_out.pcap")]
+    rows, refusals = list[str](), set[str]()
+    for event, line in zip(events(frames_in(folder / "left.pcap"), frames_in(folder / "right.pcap")), lines):
         _, _, stamp, verdict, frames = line.split()
-        assert int(stamp) == moment
-        gone = [next(outs[side])[2] for _ in range(int(frames))]
-        if table[far[side]]["link"] == "ethernet":
-            gone = [frame[14:] for frame in gone]
-        if verdict == "pass":
-            wanted = "passes (%s)" % " ∷ ".join([hexed(g) for g in gone] + ["[]"])
-        else:
-            refusals.add(verdict)
-            wanted = "refused %s" % verdict
-        rows.append("frame %s %d %s %s (%s) (%s)" % (side, moment, link, "true" if whole else "false", hexed(octets), wanted))
-    pending = next(l for l in lines if l.startswith("done")).split("pending=")[1]
-    readme = open(at("README")).read().strip().split("\n")[0]
-    text = "-- %s\n" % readme
-    text += "abbrev %s : List Row\n%s =\n%s\n" % (name, name, listed(rows, "    "))
-    text += "%s_settings : Settings\n%s_settings = %s\n\n" % ("abbrev " + name, name, settings(table))
-    text += "%s_holds : found %s_settings %s ≡ wanted %s %s\nunfolding frames_on_literals\n%s_holds = refl\n" % (name, name, name, name, pending, name)
-    return "\n".join(narrow(line) for line in text.split("\n")), refusals
+        assert int(stamp) == event.moment
+        head = 14 if document[SIDES[1 - event.side]]["link"] == "ethernet" else 0
+        rows.append(row(event, verdict, [next(outs[event.side]).octets[head:] for _ in range(int(frames))]))
+        refusals |= {verdict} - {"pass"}
+    pending = next(line for line in lines if line.startswith("done")).split("pending=")[1]
+    text = f"-- {(folder / 'README').read_text('utf-8').strip().splitlines()[0]}\n"
+    text += f"abbrev {name} : List Row\n{name} =\n{listed(rows, '    ')}\n"
+    text += f"abbrev {name}_settings : Settings\n{name}_settings = {settings(document)}\n\n"
+    text += f"{name}_holds : found {name}_settings {name} ≡ wanted {name} {pending}\nunfolding frames_on_literals\n{name}_holds = refl\n"
+    return "\n".join(map(narrow, text.split("\n"))), refusals
 
 
-def main():
-    folder, names = sys.argv[1], sys.argv[2:]
-    texts, refusals = [], set()
-    for name in names:
-        text, more = case(folder, name)
+def main() -> None:
+    """Prints the cases as a module."""
+    texts, refusals = list[str](), set[str]()
+    for name in sys.argv[2:]:
+        text, more = case(Path(sys.argv[1], name), name)
         texts.append(text)
         refusals |= more
     print("-- Worked cases, computed: whole frames, the verdict on each and the datagrams that go out. Written by tools/model_cases.py.")
     joins = "◌++◌, " if any("++ hex" in text for text in texts) else ""
-    print("use Rattle.std.proofs.Common.{%s◌≡◌, true, false, List, [], ◌∷◌, refl}" % joins)
+    print(f"use Rattle.std.proofs.Common.{{{joins}◌≡◌, true, false, List, [], ◌∷◌, refl}}")
     if refusals:
-        print("use Rattle.verdicts.specs.declared.refusal.Refusal.TheVariants.{%s}" % ", ".join(sorted(refusals)))
+        print("use Rattle.verdicts.specs.declared.refusal.Refusal.TheVariants.{" + ", ".join(sorted(refusals)) + "}")
     print("use Rattle.gate_base.specs.declared.side.Link.TheVariants.{Ethernet, Raw}")
     print("use Rattle.gate_base.specs.declared.side.Side.TheVariants.{Left, Right}")
     print("use Rattle.gate_settings.specs.declared.settings.Settings.{Settings}")

@@ -135,7 +135,7 @@ def cited(text: str, here: Module, own: str = "") -> set[Word]:
     for name in here.imported.keys() | here.defined.keys() | here.built.keys():
         if name in words or "◌" in name and words.issuperset(filter(None, name.split("◌"))) or name == "◌>>=◌" and "do" in words:
             found.add(find(own, name) if own else find(*here.imported[name]))
-    return found - {None}
+    return {one for one in found if one}
 
 
 def below(word: Word) -> set[Word]:
@@ -198,7 +198,7 @@ def crate_of(word: Word) -> str:
     return word[0].split(".")[1]
 
 
-def lines_of(words: set[Word]) -> int:
+def length_of(words: set[Word]) -> int:
     """How many lines definitions have, without comments."""
     return sum(len(MODULES[module].defined[name]) for module, name in words)
 
@@ -210,7 +210,7 @@ def minutes_of(words: set[Word]) -> float:
 
 def amounts(words: set[Word]) -> str:
     """How many definitions, lines and modules these are, as cells of a table."""
-    return f"{len(words):,} | {lines_of(words):,} | {len({module for module, _ in words}):,}"
+    return f"{len(words):,} | {length_of(words):,} | {len({module for module, _ in words}):,}"
 
 
 class Page:
@@ -233,7 +233,11 @@ class Page:
         plain = {word for word in self.all if PLAIN_TYPE.match(MODULES[word[0]].defined[word[1]][0])}
         for crate, rows in groupby(sorted(laws(), key=lambda law: ORDER.index(law[0])), key=lambda law: law[0]):
             others = {word for word in every_word() if crate_of(word) != crate}
-            named = {name: rests_on(words, frozenset(self.all | others)) & self.all - plain for _, name, words in rows if not words & set(STATEMENTS.values())}
+            named = {
+                name: rests_on(words, frozenset(self.all | others)) & self.all - plain
+                for _, name, words in rows
+                if not words & set(STATEMENTS.values())
+            }
             self.laws |= {(crate, name): words - self.by_law for name, words in named.items()}
             self.by_law.update(*named.values())
 
@@ -260,8 +264,8 @@ class Page:
             if not words:
                 sys.exit(f"tools/trusted.py: no statement rests on {crate} {module}")
             read |= words
-            yield f"| {crate} | `{module}` | {lines_of(words)} | {what} |"
-        yield f"\nThese are {lines_of(read)} lines: some {round(minutes_of(read))} minutes, at {MINUTE} characters a minute."
+            yield f"| {crate} | `{module}` | {length_of(words)} | {what} |"
+        yield f"\nThese are {length_of(read)} lines: some {round(minutes_of(read))} minutes, at {MINUTE} characters a minute."
 
     def by_statement(self) -> Iterator[str]:
         """The amounts of each statement."""
@@ -306,10 +310,10 @@ class Page:
         for crate in ORDER:
             parts = [{word for word in words if crate_of(word) == crate} for words in self.needed.values()]
             if parts[-1]:
-                cells = [f"{len(part)}, {lines_of(part)}" if part else "" for part in parts]
+                cells = [f"{len(part)}, {length_of(part)}" if part else "" for part in parts]
                 law, case = parts[-1] & self.by_law, parts[-1] & self.cases - self.by_law
                 counts = [len({module for module, _ in parts[-1]}), len(law), len(case), len(parts[-1] - law - case)]
-                yield f"| [{crate}](#{crate}) | {' | '.join(map(str, cells + counts))} |"
+                yield f"| [{crate}](#{crate}) | {' | '.join([*cells, *map(str, counts)])} |"
 
     def section(self, crate: str) -> Iterator[str]:
         """The words of one crate."""
@@ -319,7 +323,7 @@ class Page:
         yield f"\n### {crate}\n"
         lines: Counter[str] = Counter()
         for word in words:
-            lines[word[0].split(".specs.")[1]] += lines_of({word})
+            lines[word[0].split(".specs.")[1]] += length_of({word})
         yield wrapped("Lines: " + ", ".join(f"`{module}` {count}" for module, count in sorted(lines.items())) + ".") + "\n"
         for (owner, law), said in self.laws.items():
             if named := said & words:
@@ -394,9 +398,10 @@ Under each statement stand its definitions and lines.
 Under each crate stand its modules with their lines, then what each law and the cases name, and at last what neither does, with the standards that
 comments of the crate cite. A word with ¹ isn't needed for `Promised`, one with ² only for `Answers` and `IsFinished`, and one with ³ only for that.
 {sections}
-""".replace("{{minute}}", str(MINUTE))
+""".replace(
+    "{{minute}}", str(MINUTE)
+)
 
 
 if __name__ == "__main__":
-    sys.stdout.reconfigure(encoding="utf-8")
-    print(Page().text(), end="")
+    sys.stdout.buffer.write(Page().text().encode())

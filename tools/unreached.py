@@ -6,6 +6,7 @@ import os
 import re
 import sys
 from collections import defaultdict
+from collections.abc import Iterator
 
 TOP = os.path.join(os.path.dirname(os.path.abspath(__file__)), "..")
 sys.path.insert(0, f"{TOP}/python")
@@ -19,7 +20,7 @@ PASSED = re.compile(r"(?:pub )?(use|mod|syntax|infix\w*|module|unfolding)\b|[}\]
 PROOFS = ("Answers.antt", "Invariants.antt", "Proof.antt")
 
 
-def sources():
+def sources() -> Iterator[tuple[str, list[str]]]:
     """The files of the crates, each with its crate and its text without comments."""
     for base, folders, names in os.walk(f"{TOP}/crates"):
         folders[:] = [name for name in folders if name not in ("out", "must-fail", "data")]
@@ -31,9 +32,10 @@ def sources():
                     yield path, [line.split(mark)[0].rstrip() for line in file]
 
 
-def definitions(lines):
+def definitions(lines: list[str]) -> dict[str, tuple[int, set[str]]]:
     """What a file of definitions or lemmas defines: a name, its line, and the words that it says. A module's names are indented below its head."""
-    found, inside = {}, []
+    found: dict[str, tuple[int, set[str]]] = {}
+    inside: list[int] = []
     name = None
     for number, line in enumerate(lines, 1):
         text = line.strip()
@@ -46,23 +48,25 @@ def definitions(lines):
         elif text and column == (inside[-1] if inside else 0):
             if re.match(r"(?:pub )?(?:use|mod|syntax|infix\w*)\b", text):
                 name = None
-            elif not PASSED.match(text):
-                name = KEYWORD.match(text).group(1) if KEYWORD.match(text) else name
+            elif not PASSED.match(text) and (head := KEYWORD.match(text)):
+                name = head[1]
         if name and text:
             place, words = found.setdefault(name, (number, set()))
             words.update(WORD.findall(text))
     return found
 
 
-def unreached():
-    known, words = defaultdict(list), set()
+def unreached() -> list[str]:
+    """The lemmas and definitions that nothing reaches."""
+    known: dict[str, list[tuple[str, int, set[str]]]] = defaultdict(list)
+    words: set[str] = set()
     for path, lines in sources():
         if path.endswith(".rt") or os.path.basename(path) in PROOFS or "Row" in os.path.basename(path):
             words.update(word for line in lines if not line.lstrip().startswith("ghost use") for word in WORD.findall(line))
         else:
             for name, (number, said) in definitions(lines).items():
                 known[name].append((path, number, said))
-    reached, ahead = set(), [word for word in words if word in known]
+    reached, ahead = set[str](), [word for word in words if word in known]
     while ahead:
         name = ahead.pop()
         if name not in reached:
@@ -71,15 +75,22 @@ def unreached():
     return sorted(f"{path}:{number}: {name}" for name in known if name not in reached for path, number, _ in known[name])
 
 
-def unnamed():
-    said = defaultdict(str)
+def unnamed() -> list[str]:
+    """The entries that their crate never names."""
+    said: dict[str, str] = defaultdict(str)
     for path, lines in sources():
         said[path.split("/")[1]] += "\n".join(lines)
     uses = uses_of(lines_of(CRATES))
-    return [f"crates.txt: {name} never names {other}" for name, others in uses.items() for other in others if not re.search(rf"\b(?:Rattle\.)?{other}(?:\.|::|;)", said[name])]
+    return [
+        f"crates.txt: {name} never names {other}"
+        for name, others in uses.items()
+        for other in others
+        if not re.search(rf"\b(?:Rattle\.)?{other}(?:\.|::|;)", said[name])
+    ]
 
 
-def main():
+def main() -> None:
+    """Tells both."""
     found = unreached() + unnamed()
     print("\n".join(found) if found else "nothing")
     sys.exit(1 if found else 0)

@@ -4,14 +4,15 @@ import contextlib
 import os
 import subprocess
 import sys
-import tempfile
 import tomllib
+import tempfile
 from collections import deque
 from ipaddress import IPv4Address
 
 TOP = os.path.join(os.path.dirname(os.path.realpath(__file__)), "../..")
 sys.path.insert(0, f"{TOP}/python")
 from rendapil.bindings import LONG_TIMEOUT, SECOND, SIDES, Binding, Bindings, Pool, datagram_of  # noqa: E402
+from rendapil.document import document_in  # noqa: E402
 from rendapil.settings_text import statics  # noqa: E402
 
 FULL, AGAIN = 80, 70
@@ -88,8 +89,8 @@ class Watch:
     """Follows each event once its line and its frames are there."""
 
     def __init__(self, settings: str, links: tuple[int, int], kept: Kept | None) -> None:
-        with open(settings, "rb") as file:
-            self._table = Bindings(tomllib.load(file), self._told)
+        with open(settings, encoding="utf-8") as file:
+            self._table = Bindings(document_in(file.read()), self._told)
         self._links, self._kept = links, kept
         self._lines: deque[tuple[int, int, str, bytes, int]] = deque()
         self._sent: tuple[deque[bytes], deque[bytes]] = (deque(), deque())

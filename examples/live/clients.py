@@ -20,7 +20,7 @@ def login(host: str = FTP, source: str = OWN, patience: float = 30) -> ftplib.FT
     client = ftplib.FTP(timeout=patience, source_address=(source, 0))
     client.connect(host)
     client.login()
-    client.trust_server_pasv_ipv4_address = True
+    client.trust_server_pasv_ipv4_address = True  # type: ignore[attr-defined] # mypy's own types of ftplib lack it
     return client
 
 
@@ -221,10 +221,8 @@ def again() -> str:
 
 def main() -> None:
     """Says what was seen in one line."""
-    calls: dict[str, Callable[..., str]] = {
-        call.__name__: call for call in (many, pieces, at_once, parts, short, across, again)
-    }
-    print(calls[sys.argv[1]](*sys.argv[2:]))
+    calls: list[Callable[..., str]] = [many, pieces, at_once, parts, short, across, again]
+    print(next(call for call in calls if call.__name__ == sys.argv[1])(*sys.argv[2:]))
 
 
 if __name__ == "__main__":

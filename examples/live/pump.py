@@ -145,7 +145,7 @@ class Pump:
             return
         for side, device in enumerate(self._devices):
             if may_read:
-                self._loop.watch(device.fd, lambda side=side: self._pump(side))
+                self._loop.watch(device.fd, partial(self._pump, side))
             else:
                 self._loop.rest(device.fd)
 
@@ -238,7 +238,12 @@ def words_of_command() -> argparse.Namespace:
     add("--queue", type=int, help="set the length of their queues, in frames")
     add("--report", metavar="FILE", help="append the report there, each line with its frame in words (- is standard output)")
     add("--refused", action="store_true", help="only lines of frames that don't pass, and of one second at most as many as --lines says")
-    add("--lines", type=int, metavar="N", help="write at most N lines of a second to the report, and count the others (20 with --refused, else no limit; 0 is none)")
+    add(
+        "--lines",
+        type=int,
+        metavar="N",
+        help="write at most N lines of a second to the report, and count the others (20 with --refused, else no limit; 0 is none)",
+    )
     add("--save", metavar="FOLDER", help="keep what the program reads and writes")
     add("--pools", action="store_true", help="tell on standard error when a pool is 80 %% full, and PoolEmpty")
     add("--statics", metavar="FILE", help="the same, and keep there the aliases that hosts got by use, for the next start")

@@ -27,6 +27,8 @@ def capture_head(link: int) -> bytes:
 
 def link_of(head: bytes) -> int:
     """The link type of a head that the program wrote. ValueError where it is no such head."""
+    magic: int
+    link: int
     magic, _, _, _, _, _, link = _HEAD.unpack(head)
     if magic != NANOSECONDS:
         raise ValueError(f"no head of a capture: {head.hex()}")

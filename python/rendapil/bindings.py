@@ -10,7 +10,9 @@ from dataclasses import dataclass
 from ipaddress import IPv4Address, IPv4Network
 from itertools import accumulate, zip_longest
 
-SIDES = ("left", "right")
+from rendapil.document import Document, RealmTable, Side
+
+SIDES: tuple[Side, Side] = ("left", "right")
 ETHERNET = 1
 SECOND = 10**9
 UDP_TIMEOUT, PING_HOLD, NAME_HOLD, TCP_HOLD, LONG_TIMEOUT, JOIN_HOLD = (n * SECOND for n in (300, 60, 60, 240, 7440, 30))
@@ -226,8 +228,8 @@ class Binding:
 class Pool:
     """The addresses by which hosts of the other realm are known in one."""
 
-    def __init__(self, settings: dict[str, str]) -> None:
-        self.first, self.last = (int(IPv4Address(settings[f"pool_{end}"])) for end in ("first", "last"))
+    def __init__(self, settings: RealmTable) -> None:
+        self.first, self.last = int(IPv4Address(settings["pool_first"])), int(IPv4Address(settings["pool_last"]))
         self.holders: dict[int, Binding] = {}
         self.fixed = 0
         self.most, self.most_at = 0, 0  # how many were taken at once, and when first
@@ -310,17 +312,16 @@ class Blocks:
         return place > 0 and address <= self._lasts[place - 1]
 
 
-def pool_of(settings: dict, side: str) -> tuple[int, int]:
+def pool_of(settings: Document, side: Side) -> tuple[int, int]:
     """First and last address of a realm's pool."""
-    first, last = (int(IPv4Address(settings[side][f"pool_{end}"])) for end in ("first", "last"))
-    return first, last
+    return int(IPv4Address(settings[side]["pool_first"])), int(IPv4Address(settings[side]["pool_last"]))
 
 
 class Bindings:
     """The bindings of both realms, event by event. `told` is called with each new one. What the gateway sent shows what it called each address: where
     the table says otherwise, it takes over what was shown, and the event is one of those that are missed."""
 
-    def __init__(self, settings: dict, told: Callable[[Binding], None]) -> None:
+    def __init__(self, settings: Document, told: Callable[[Binding], None]) -> None:
         self.pools = tuple(Pool(settings[side]) for side in SIDES)
         self.missed = 0  # events that couldn't be followed
         self._told = told
@@ -331,8 +332,7 @@ class Bindings:
         self._parts: dict[bytes, tuple[int, bytearray]] = {}
         self._is_astray = False
         for row in settings.get("static", []):
-            host, alias = (int(IPv4Address(row[key])) for key in ("host", "alias"))
-            self._bind(Binding(SIDES.index(row["side"]), host, alias, True), 0)
+            self._bind(Binding(SIDES.index(row["side"]), int(IPv4Address(row["host"])), int(IPv4Address(row["alias"])), True), 0)
 
     def event(self, side: int, moment: int, verdict: str, came: bytes, sent: list[bytes]) -> None:
         """A datagram that came from a side, and those that were sent for it to the other."""

@@ -12,7 +12,7 @@ import tempfile
 import time
 from collections.abc import Iterator
 from pathlib import Path
-from typing import IO, Any
+from typing import IO
 
 from rendapil import crates, program
 from rendapil.places import BUILT, CRATES, INSTALLED, IS_CHECKOUT, MADE, PREBUILT, TOP
@@ -50,14 +50,16 @@ def alone() -> Iterator[Path]:
 
 
 @contextlib.contextmanager
-def group(*words: str | Path, **how: Any) -> Iterator[subprocess.Popen[str]]:
-    """A command in a process group of its own, which ends with this one."""
+def group(*words: str | Path, stderr: IO[str] | int, room: Path | None = None) -> Iterator[subprocess.Popen[str]]:
+    """A command in a process group of its own, which ends with this one. In a room for a build it takes no input, and its output can be read."""
 
     def end(number: int, _: object) -> None:
         raise Stop(128 + number)
 
     before = {number: signal.signal(number, end) for number in (signal.SIGINT, signal.SIGTERM)}
-    work = subprocess.Popen(words, text=True, errors="replace", process_group=0, **how)
+    stdin, stdout = (subprocess.DEVNULL, subprocess.PIPE) if room else (None, None)
+    env = {**os.environ, "TMPDIR": str(room / ".git/tmp")} if room else None
+    work = subprocess.Popen(words, stdin=stdin, stdout=stdout, stderr=stderr, cwd=room, env=env, text=True, errors="replace", process_group=0)
     try:
         yield work
     finally:
@@ -158,8 +160,7 @@ def build_proved() -> None:
             f"{about(estimate(lines))}, where nothing is proved yet. How fast these are the first crates will tell"
         )
         tell_where_kept()
-        how: dict[str, Any] = {"cwd": room, "env": {**os.environ, "TMPDIR": str(room / ".git/tmp")}, "stdin": subprocess.DEVNULL}
-        with group("rt", "ci", stdout=subprocess.PIPE, stderr=subprocess.STDOUT, **how) as work:
+        with group("rt", "ci", stderr=subprocess.STDOUT, room=room) as work:
             assert work.stdout
             tell_crates(work.stdout, lines, log)
             work.wait()

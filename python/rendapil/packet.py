@@ -40,9 +40,15 @@ class Packet:
     """An IPv4 datagram that is changed in place, its sums with it. What is known of its header is that of its beginning."""
 
     __slots__ = ("destination", "flags", "head", "octets", "protocol", "source", "total")
+    total: int
+    flags: int
+    protocol: int
+    source: int
+    destination: int
 
     def __init__(self, octets: bytes) -> None:
         self.octets = bytearray(octets)
+        size: int
         size, self.total, self.flags, self.protocol, self.source, self.destination = HEADER.unpack_from(octets)
         self.head = (size & 15) * 4
 

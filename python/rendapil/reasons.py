@@ -8,7 +8,6 @@ import stat
 import subprocess
 import sys
 from collections import Counter
-from typing import Any
 
 from rendapil.kinds import by_head
 from rendapil.outputs import Words
@@ -139,10 +138,18 @@ def tell_by(module: str, *words: str, seconds: float) -> None:
     """Says what a module tells of files, which may be hostile: in a process of its own, for so many seconds."""
     with contextlib.suppress(subprocess.TimeoutExpired):
         command = [sys.executable, "-m", module, *words]
-        how: dict[str, Any] = {"env": {**os.environ, "PYTHONPATH": str(TOP / "python")}, "stdin": subprocess.DEVNULL, "stderr": subprocess.DEVNULL}
-        for line in subprocess.run(
-            command, stdout=subprocess.PIPE, text=True, errors="replace", timeout=seconds, check=False, **how
-        ).stdout.splitlines():
+        done = subprocess.run(
+            command,
+            stdin=subprocess.DEVNULL,
+            stdout=subprocess.PIPE,
+            stderr=subprocess.DEVNULL,
+            env={**os.environ, "PYTHONPATH": str(TOP / "python")},
+            text=True,
+            errors="replace",
+            timeout=seconds,
+            check=False,
+        )
+        for line in done.stdout.splitlines():
             say(line)
 
 

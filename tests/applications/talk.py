@@ -31,7 +31,9 @@ def tracker() -> None:
         peer.connect(("10.2.0.9", 1337))
         peer.send(struct.pack(">QII", 0x41727101980, 0, 7))
         connection = peer.recv(99)[8:16]
-        peer.send(connection + struct.pack(">II20s20sQQQIIIiH", 1, 8, bytes(range(20)), b"-AA0000-" + host.encode().ljust(12), 0, 0, 0, 2, 0, 9, -1, 6881))
+        peer.send(
+            connection + struct.pack(">II20s20sQQQIIIiH", 1, 8, bytes(range(20)), b"-AA0000-" + host.encode().ljust(12), 0, 0, 0, 2, 0, 9, -1, 6881)
+        )
         peer.recv(999)
 
 

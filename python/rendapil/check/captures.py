@@ -13,8 +13,10 @@ from itertools import islice
 from typing import TYPE_CHECKING
 
 from rendapil.any_capture import IPV4, TAGS
-from rendapil.inputs import Fed, opened
+from rendapil.bindings import SIDES
+from rendapil.document import Side, faultless
 from rendapil.files import ETHERNET, FORMS, RECORD, shown
+from rendapil.inputs import Fed, opened
 from rendapil.kinds import by_head
 from rendapil.packet import SUM_AT, Packet, is_host, is_private
 from rendapil.payloads.applications import BREAKS
@@ -51,7 +53,7 @@ class Looked:
     fault: str = ""
 
 
-def look_at(path: str, side: str, realms: "Realms", most: int) -> Looked:
+def look_at(path: str, side: Side, realms: "Realms", most: int) -> Looked:
     """Looks at the first frames of a capture. `realms` are the settings."""
     scan, digest = Scan(meaning_by(realms), True), hashlib.sha256()
     looked = Looked(scan)
@@ -104,7 +106,7 @@ def meaning_by(realms: "Realms") -> Meaning:
     return meaning
 
 
-def kind_of(octets: bytes, link: int, length: int, side: str, realms: "Realms") -> str:
+def kind_of(octets: bytes, link: int, length: int, side: Side, realms: "Realms") -> str:
     """What the gateway has to say of a frame: the first of the reasons that are looked for, in the order in which it looks for them."""
     if not octets:
         return "heartbeat"
@@ -136,7 +138,7 @@ def kind_of(octets: bytes, link: int, length: int, side: str, realms: "Realms") 
     return "swapped" if realms.is_in_pool("right" if side == "left" else "left", destination) else "far"
 
 
-def mends(side: str, path: str, realms: "Realms") -> dict[str, tuple[str, str]]:
+def mends(side: Side, path: str, realms: "Realms") -> dict[str, tuple[str, str]]:
     """For each kind what is told of it, and what mends it."""
     old = shlex.quote(path)
     first, last = (IPv4Address(end) for end in realms.pools[side])
@@ -156,9 +158,8 @@ def told(paths: list[str], realms: "Realms", most: int = LOOKED_AT) -> Iterator[
     """A line for each kind of frames that will be refused, with the command that mends it, the gravest first."""
     if not paths:
         return
-    sides = ("left", "right")
     found: list[Looked] = []
-    for side, path in zip(sides, paths):
+    for side, path in zip(SIDES, paths):
         try:
             found.append(look_at(path, side, realms, most))
         except OSError as error:
@@ -175,7 +176,7 @@ def told(paths: list[str], realms: "Realms", most: int = LOOKED_AT) -> Iterator[
             f"Name {shown(paths[1])} before {shown(paths[0])}"
         )
         one.count["swapped"] = other.count["swapped"] = 0
-    for side, path, looked in zip(sides, paths, found):
+    for side, path, looked in zip(SIDES, paths, found):
         if looked.fault:
             yield f"{shown(path)}: it {shown(looked.fault)}"
         which = f"of the first {looked.total}" if looked.total == most else f"of {looked.total}"
@@ -209,7 +210,7 @@ def main() -> None:
     with open(settings, "rb") as file:
         document, faults = read(file.read(LIMIT + 1))
     if not faults and all(map(os.path.isfile, paths)):
-        for line in islice(told(paths, Realms(document), BRIEFLY), 2):
+        for line in islice(told(paths, Realms(faultless(document)), BRIEFLY), 2):
             print(line)
 
 

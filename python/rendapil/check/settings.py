@@ -10,6 +10,9 @@ from collections.abc import Callable, Iterator
 from dataclasses import dataclass
 from ipaddress import IPv4Address, IPv4Network, collapse_addresses
 
+from rendapil.bindings import pool_of
+from rendapil.document import Document, Side, faultless
+
 LIMIT = 1_048_576
 """The most bytes of a settings file."""
 
@@ -22,7 +25,7 @@ MOST_UNKNOWN, LONGEST = 20, 60
 POOL_LIMIT = 65_536
 """The most addresses of a pool."""
 
-OTHER = {"left": "right", "right": "left"}
+OTHER: dict[Side, Side] = {"left": "right", "right": "left"}
 
 PLACES = {"": "in front of all tables", "realm": "to left and right", "static": "to a static", "oid": "to an oid rule"}
 
@@ -77,8 +80,13 @@ def is_prefix(text: str) -> bool:
     """Whether a text is the front of an object identifier."""
     if not re.fullmatch(r"(0|[1-9][0-9]{0,9})(\.(0|[1-9][0-9]{0,9})){1,63}", text):
         return False
-    first, second, *others = map(int, text.split("."))
+    first, second, *others = [int(arc) for arc in text.split(".")]
     return first <= 2 and second <= (39 if first < 2 else 4_294_967_215) and all(arc <= 4_294_967_295 for arc in others)
+
+
+def is_skip(number: int) -> bool:
+    """Whether a rule may skip so many parts of an identifier."""
+    return 0 <= number <= 127
 
 
 ADDRESS = Form('the address of a host, as "192.168.200.1"', str, is_address, True, "BadAddress")
@@ -101,12 +109,12 @@ KEYS = {
     "static": {"side": one_of("left", "right", needed=True), "host": ADDRESS, "alias": ADDRESS},
     "oid": {
         "prefix": Form('2 to 64 numbers joined by dots, as "1.3.6.1.2.1.4.20.1"', str, is_prefix, True),
-        "skip": Form("a whole number from 0 to 127", int, lambda number: 0 <= number <= 127, True),
+        "skip": Form("a whole number from 0 to 127", int, is_skip, True),
     },
 }
 
 
-def tables_in(document: dict) -> Iterator[tuple[str, str, dict]]:
+def tables_in(document: dict[str, object]) -> Iterator[tuple[str, str, dict[str, object]]]:
     """The tables of a document in the order of testing: which kind of keys each has, the front of their names, and the table."""
     for side in OTHER:
         if isinstance(table := document.get(side), dict):
@@ -127,7 +135,7 @@ def hint_for(kind: str, front: str, key: str) -> str:
     return f": is {front}{near[0]} meant?" if near else ""
 
 
-def unknown_keys(document: dict) -> list[str]:
+def unknown_keys(document: dict[str, object]) -> list[str]:
     """A line for each key that the gateway ignores, up to a limit."""
     found = [(kind, front, key) for kind, front, table in [("", "", document), *tables_in(document)] for key in table if key not in KEYS[kind]]
     lines = [f"{front}{key[:LONGEST]} isn't known, and is ignored{hint_for(kind, front, key)}" for kind, front, key in found[:MOST_UNKNOWN]]
@@ -136,7 +144,7 @@ def unknown_keys(document: dict) -> list[str]:
     return lines
 
 
-def fault_of(name: str, table: dict, key: str, form: Form) -> Iterator[str]:
+def fault_of(name: str, table: dict[str, object], key: str, form: Form) -> Iterator[str]:
     """The fault of one key, with what is allowed."""
     if key not in table:
         if form.needed:
@@ -152,7 +160,7 @@ def fault_of(name: str, table: dict, key: str, form: Form) -> Iterator[str]:
         yield f"{form.fault if is_kind else 'Kind'} {name}: {shown if len(shown) < LONGEST else 'the value'} isn't {form.words}"
 
 
-def faults_of_keys(document: dict) -> Iterator[str]:
+def faults_of_keys(document: dict[str, object]) -> Iterator[str]:
     """The faults of single keys, in the order of testing."""
     tables = list(tables_in(document))
     for key, form in KEYS[""].items():
@@ -166,9 +174,9 @@ def faults_of_keys(document: dict) -> Iterator[str]:
 class Realms:
     """Settings whose keys are right."""
 
-    def __init__(self, document: dict) -> None:
+    def __init__(self, document: Document) -> None:
         self.document = document
-        self.pools = {side: tuple(int(IPv4Address(document[side][f"pool_{end}"])) for end in ("first", "last")) for side in OTHER}
+        self.pools = {side: pool_of(document, side) for side in OTHER}
         self.same = list(map(IPv4Network, document.get("same", [])))
         self._apart = list(collapse_addresses(self.same))  # in order, and no two share an address
         self.statics = [(row["side"], IPv4Address(row["host"]), IPv4Address(row["alias"])) for row in document.get("static", [])]
@@ -178,11 +186,11 @@ class Realms:
         place = bisect_right(self._apart, IPv4Network(address))
         return any(address in block for block in self._apart[max(0, place - 1) : place + 1])
 
-    def is_in_pool(self, side: str, address: IPv4Address) -> bool:
+    def is_in_pool(self, side: Side, address: IPv4Address) -> bool:
         """Whether an address is one of a realm's pool."""
         return self.pools[side][0] <= int(address) <= self.pools[side][1]
 
-    def size(self, side: str) -> int:
+    def size(self, side: Side) -> int:
         """How many addresses a pool has."""
         return self.pools[side][1] - self.pools[side][0] + 1
 
@@ -252,7 +260,7 @@ def long_numbers(value: object) -> Iterator[int]:
 DEEP_KEY = re.compile(rf"""(?:^|[\[{{,])[ \t]*+(?:(?:[\w-]++|"[^"\n]*+"|'[^'\n]*+')[ \t]*+\.[ \t]*+){{{DEEPEST}}}""", re.M)
 
 
-def read(octets: bytes) -> tuple[dict, list[str]]:
+def read(octets: bytes) -> tuple[dict[str, object], list[str]]:
     """The document, and why it is none."""
     if len(octets) > LIMIT:
         return {}, [f"TooLong: it has more than {LIMIT} bytes"]
@@ -274,7 +282,7 @@ def read(octets: bytes) -> tuple[dict, list[str]]:
         return {}, [f"NotToml: {error}"]
 
 
-def document_of(path: str) -> tuple[dict, str]:
+def document_of(path: str) -> tuple[Document, str]:
     """What a settings file without faults says, and its text. Fault where it has some: only `check` tells them."""
     with open(path, "rb") as file:
         octets = file.read(LIMIT + 1)
@@ -284,7 +292,7 @@ def document_of(path: str) -> tuple[dict, str]:
         from rendapil.sayings import Fault
 
         raise Fault(f"{shown(path)} has faults: 'rendapil check' tells them")
-    return document, octets.removeprefix(b"\xef\xbb\xbf").decode()
+    return faultless(document), octets.removeprefix(b"\xef\xbb\xbf").decode()
 
 
 def faults_of_captures(paths: list[str], realms: Realms) -> Iterator[str]:
@@ -311,7 +319,7 @@ def lines_of(settings: str, captures: list[str], brief: bool) -> list[str]:
         sys.exit(f"rendapil check: {plain(settings)}: {error.strerror}")
     lines = [] if faults else unknown_keys(document)
     faults = faults or list(faults_of_keys(document))
-    realms = None if faults else Realms(document)
+    realms = None if faults else Realms(faultless(document))
     faults += realms.faults() if realms else []
     if realms and not brief:
         realms.tell()

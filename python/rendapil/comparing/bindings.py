@@ -9,6 +9,7 @@ from zlib import crc32
 
 from rendapil.bindings import SECOND, SIDES, TCP, UDP, Blocks, pool_of
 from rendapil.comparing.captures import Bare, Joiner, Links
+from rendapil.document import Document
 from rendapil.packet import ICMP, is_host
 from rendapil.settings_text import oid_table, pool_table, same_line, static_table
 
@@ -232,7 +233,7 @@ class Learnt:
             found += [(one[1], other[0]) for one, other in zip(spans, spans[1:]) if one[1] < other[0]]
         return sorted(set(found), key=lambda one: one[1])
 
-    def choose(self, settings: dict) -> None:
+    def choose(self, settings: Document) -> None:
         """Chooses one alias for each host, that of the most frames, and tells where the device contradicts itself or the settings."""
         for (side, host, _), (first_seen, _) in self.spans.items():
             self.first[side, host] = min(first_seen, self.first.get((side, host), first_seen))
@@ -271,7 +272,7 @@ class Learnt:
         """Whether a host without a static hadn't been seen by then: a device needn't know it."""
         return (side, host) in self.chosen and (side, host) not in self.fixed and moment < self.first.get((side, host), 1 << 63)
 
-    def settings_text(self, settings: dict, is_by_use: bool = False) -> str:
+    def settings_text(self, settings: Document, is_by_use: bool = False) -> str:
         """Settings of the reference: with these aliases, bare datagrams, and fragments joined. `is_by_use` leaves out those of hosts without a static."""
         lines = ["# Written by rendapil compare: the aliases are those that the device gave.", 'fragments = "join"']
         if settings.get("same"):

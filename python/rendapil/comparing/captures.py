@@ -12,6 +12,7 @@ from dataclasses import dataclass, field
 
 from rendapil.any_capture import IN, LOCAL, OUT, UNKNOWN, Record, datagram_in, with_length
 from rendapil.bindings import SECOND, SIDES, TCP, UDP, Blocks, pool_of
+from rendapil.document import Document
 from rendapil.files import ETHERNET, bare_head, record_head, shown
 from rendapil.packet import ICMP, Packet, header_sum
 from rendapil.progress import Progress
@@ -142,7 +143,7 @@ class Bare:
 
     path: str
     name: str
-    numbers: array = field(default_factory=lambda: array("I"))
+    numbers: "array[int]" = field(default_factory=lambda: array("I"))
     first: int = 0
     last: int = 0
 
@@ -164,7 +165,7 @@ class Bare:
 class Links:
     """The four captures of bare datagrams: `came` and `went`, each by side."""
 
-    def __init__(self, settings: dict, room: str, macs: tuple[list[bytes], list[bytes]]) -> None:
+    def __init__(self, settings: Document, room: str, macs: tuple[list[bytes], list[bytes]]) -> None:
         same = Blocks(settings.get("same", []))
         self.realms = [Realm(side, *pool_of(settings, SIDES[side]), same, set(macs[side])) for side in (0, 1)]
         self.left_out: Counter[str] = Counter()

@@ -19,6 +19,7 @@ from rendapil.comparing.causes import BY_RIGHT, DIFFERENT, UNSURE, Group, Groups
 from rendapil.comparing.judge import Judge, Options, delays_of
 from rendapil.comparing.match import Match
 from rendapil.comparing.ports import undo_ports
+from rendapil.document import Document
 from rendapil.ending import ended, put_in_place, refuse_overwriting
 from rendapil.files import shown
 from rendapil.frames import time_of
@@ -76,7 +77,7 @@ def parsed() -> argparse.Namespace:
     return parser.parse_args()
 
 
-def read_links(words: argparse.Namespace, settings: dict, room: str) -> Links:
+def read_links(words: argparse.Namespace, settings: Document, room: str) -> Links:
     """Reads the captures, as many as there are."""
     links = Links(settings, room, (words.left_mac, words.right_mac))
     files = words.captures
@@ -210,7 +211,7 @@ def folder(kept: str | None, inputs: list[str]) -> Iterator[str]:
             yield room
 
 
-def compared(words: argparse.Namespace, settings: dict, links: Links, learnt: Learnt, room: str) -> "Compared":
+def compared(words: argparse.Namespace, settings: Document, links: Links, learnt: Learnt, room: str) -> "Compared":
     """Compares the captures of a time in which no alias changes hands."""
     learnt.choose(settings)
     moved = undo_ports(settings, links, learnt) if words.any_port else (0, 0)
@@ -254,7 +255,7 @@ class Compared:
         self.misses, self.parts = self.misses + other.misses, self.parts + 1
 
 
-def compared_by_parts(words: argparse.Namespace, settings: dict, links: Links, room: str) -> Compared:
+def compared_by_parts(words: argparse.Namespace, settings: Document, links: Links, room: str) -> Compared:
     """Compares. Where aliases change hands, each time between two changes by itself."""
     learnt = learnt_from(links, words)
     if not learnt.votes and all(file.numbers for file in links.went):

@@ -29,6 +29,7 @@ from rendapil.comparing.causes import (
 )
 from rendapil.comparing.match import KEPT, Came, Due, Match, Reference, Sent, is_tracked, rematched, sent_by
 from rendapil.comparing.streams import MISSED, PROXY, ROOM, Direction, Segment, Stream, segment_of, split_by_syn
+from rendapil.document import Document
 from rendapil.packet import ICMP, Packet
 from rendapil.sayings import Fault
 from rendapil.streams import TRACKED
@@ -79,7 +80,7 @@ def run_reference(options: Options, settings: str, came: Iterable[str], name: st
 class Judge:
     """Compares, and keeps what it finds in `groups`."""
 
-    def __init__(self, settings: dict, links: Links, learnt: Learnt, options: Options) -> None:
+    def __init__(self, settings: Document, links: Links, learnt: Learnt, options: Options) -> None:
         self.links, self.learnt, self.options, self.groups = links, learnt, options, Groups()
         self._same = Blocks(settings.get("same", []))
         self._alias = learnt.chosen

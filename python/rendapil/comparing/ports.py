@@ -6,6 +6,7 @@ from array import array
 from rendapil.bindings import SIDES, TCP, UDP, Blocks, pool_of
 from rendapil.comparing.bindings import APART, Learnt, frames, identity, is_error
 from rendapil.comparing.captures import Bare, Links, ports
+from rendapil.document import Document
 from rendapil.packet import ICMP, Packet, is_host
 
 Flow = bytes
@@ -58,7 +59,7 @@ def flows_of(came: str, went: str) -> dict[Flow, tuple[bytes, bytes]]:
     return found
 
 
-def own_aliases(settings: dict, learnt: Learnt, side: int, hosts: set[bytes]) -> int:
+def own_aliases(settings: Document, learnt: Learnt, side: int, hosts: set[bytes]) -> int:
     """Gives each host without an alias one that is free, the greatest first. Says how many got one."""
     first, last = pool_of(settings, SIDES[1 - side])
     taken = {alias for (one, _), alias in learnt.chosen.items() if one == side}
@@ -90,7 +91,7 @@ def rewritten(file: Bare, flows: dict[Flow, tuple[bytes, bytes]], is_back: bool)
     file.numbers = array("I", new.numbers)
 
 
-def undo_ports(settings: dict, links: Links, learnt: Learnt) -> tuple[int, int]:
+def undo_ports(settings: Document, links: Links, learnt: Learnt) -> tuple[int, int]:
     """Undoes it in both directions. Says how many flows had another port, and how many hosts shared an alias."""
     changed = shared = 0
     for side in (0, 1):

@@ -11,11 +11,12 @@ import tomllib
 from collections.abc import Callable, Iterable, Iterator
 from dataclasses import asdict
 from ipaddress import IPv4Address
-from typing import TYPE_CHECKING, Any
+from typing import IO, TYPE_CHECKING
 
 from rendapil.bindings import SECOND, SIDES, Binding, Pool
 from rendapil.check.settings import document_of
 from rendapil.ending import ended
+from rendapil.explain.notes import NONE, Notes
 from rendapil.explain.story import Row, Story, named
 from rendapil.files import Capture, shown
 from rendapil.frames import second_of, time_of, verdicts_of
@@ -229,16 +230,15 @@ def settings_with(text: str, rows: list[Binding]) -> str:
 
 
 @contextlib.contextmanager
-def written(path: str, mode: str) -> Iterator[Any]:
+def written(path: str) -> Iterator[IO[bytes]]:
     """A file that takes the place of what was there when all is written, or a pipe or device as it is."""
-    encoding = None if "b" in mode else "utf-8"
     if os.path.exists(path) and not os.path.isfile(path):
-        with open(path, mode, encoding=encoding) as file:
+        with open(path, "wb") as file:
             yield file
         return
     whole = os.path.realpath(path)
     try:
-        new = tempfile.NamedTemporaryFile(mode, encoding=encoding, dir=os.path.dirname(whole), prefix=".rendapil-", delete=False)
+        new = tempfile.NamedTemporaryFile(dir=os.path.dirname(whole), prefix=".rendapil-", delete=False)
     except OSError as error:
         raise OSError(error.errno, error.strerror, path) from None
     with new as file:
@@ -311,12 +311,12 @@ def parsed() -> argparse.Namespace:
     return parser.parse_args()
 
 
-def notes_in(path: str) -> dict[str, Any]:
+def notes_in(path: str) -> Notes:
     """What `try` has to tell on the page: the command, what was left out, and how large pools have to be."""
     if not path:
-        return {}
+        return NONE
     with open(path, encoding="utf-8") as file:
-        found: dict[str, Any] = json.load(file)
+        found: Notes = json.load(file)
     return found
 
 
@@ -346,7 +346,7 @@ def explain(words: argparse.Namespace) -> None:
             from rendapil.explain.pcapng import Commented
 
             links = [behind.enter_context(Capture(files[name])).link for name in ("left_in", "left_out", "right_in", "right_out")]
-            commented = Commented(behind.enter_context(written(words.pcapng, "wb")), links, verdicts, scan)
+            commented = Commented(behind.enter_context(written(words.pcapng)), links, verdicts, scan)
             story.behinds.append(commented.take)
         if words.html:
             from rendapil.explain.gathered import Gathered
@@ -367,15 +367,15 @@ def explain(words: argparse.Namespace) -> None:
         if told:
             print("\033[K", end="", file=sys.stderr, flush=True)
         if words.html and scan and changes:
-            behind.enter_context(written(words.html, "w")).write(page.written(gathered, story, scan, changes))
+            behind.enter_context(written(words.html)).write(page.written(gathered, story, scan, changes).encode())
     tell_form(words, story, scan, changes, text)
 
 
 def tell_form(words: argparse.Namespace, story: Story, scan: "Scan | None", changes: "Changes | None", text: str) -> None:
     """Writes new settings, or tells in the form that is asked for."""
     if words.new_settings:
-        with written(words.new_settings, "w") as file:
-            file.write(settings_with(text, worth_keeping(story)))
+        with written(words.new_settings) as file:
+            file.write(settings_with(text, worth_keeping(story)).encode())
     if words.statics:
         print(statics(worth_keeping(story)), end="")
     elif scan and changes and words.payloads:

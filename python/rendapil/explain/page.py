@@ -1,22 +1,24 @@
 """The page of a run, written by the template page.html. Jinja escapes all that comes from the captures. Needs Debian's python3-jinja2."""
 import base64
 import hashlib
-import os
 from ipaddress import IPv4Address
-from typing import Any, NamedTuple
+from pathlib import Path
+from typing import NamedTuple
 
 from rendapil.bindings import SIDES, Binding
-from rendapil.frames import Verdict
-from rendapil.explain.texts import Text, text_of
-from rendapil.explain.talks import Talks
-from rendapil.payloads.applications import BREAKS, UNSURE
-from rendapil.payloads.kept import MAYBE
 from rendapil.explain.changes import Changes, said_of
 from rendapil.explain.gathered import PARTS, Gathered, Parts
+from rendapil.explain.notes import NONE, Notes
 from rendapil.explain.pictures import BOTTOM, HEIGHT, LEFT, TOP, WIDTH, Axis, Picture, Tick, clock, filled, span, stacked
 from rendapil.explain.story import Story
+from rendapil.explain.talks import Talks
+from rendapil.explain.texts import Text, text_of
+from rendapil.frames import Verdict
+from rendapil.payloads.applications import BREAKS, UNSURE
+from rendapil.payloads.kept import MAYBE
 from rendapil.payloads.scan import Scan, Told, summary_of, told_rows
 
+HERE = Path(__file__).resolve().parent
 SHOWN_BINDINGS, SHOWN_REFUSED, SHOWN_ZONES = 500, 100, 50
 """The most rows of each table."""
 
@@ -60,8 +62,8 @@ COLOURS = 7
 class Page:
     """Writes the page of a run."""
 
-    def __init__(self, verdicts: dict[str, Verdict], names: dict[str, str], of: str = "", notes: dict[str, Any] | None = None) -> None:
-        self.verdicts, self.names, self.of, self.notes = verdicts, names, of, notes or {"command": "", "odd": [], "pools": []}
+    def __init__(self, verdicts: dict[str, Verdict], names: dict[str, str], of: str = "", notes: Notes = NONE) -> None:
+        self.verdicts, self.names, self.of, self.notes = verdicts, names, of, notes
         self.talks = Talks()
         self.texts: dict[str, Text] = {}
         self.classes: dict[str, str] = {}
@@ -164,7 +166,7 @@ class Page:
             said.append(f"{counted(changes.answers, 'DNS answer')} changed.")
         return said
 
-    def findings(self, run: Gathered, scan: Scan, changes: Changes) -> dict[str, Any]:
+    def findings(self, run: Gathered, scan: Scan, changes: Changes) -> dict[str, object]:
         """What the page says of the run as a whole: the verdict, what breaks, who speaks with whom, names that changed, and what to do."""
         payloads = told_rows(scan)
         talks, talks_count = self.talks.rows()
@@ -181,7 +183,7 @@ class Page:
 
         room = Environment(
             autoescape=True,
-            loader=FileSystemLoader(os.path.dirname(os.path.realpath(__file__))),
+            loader=FileSystemLoader(HERE),
             undefined=StrictUndefined,
             trim_blocks=True,
             lstrip_blocks=True,
@@ -192,7 +194,7 @@ class Page:
         used = story.used()
         most_used = sorted(used, key=lambda one: -one.uses)[:SHOWN_BINDINGS]
         axis = self.axes(run)[0][2]
-        style, script = (self._part(room, name) for name in ("page.css", "page.js"))
+        style, script = (self._part(name) for name in ("page.css", "page.js"))
         total, refused = sum(run.counts.values()), sum(count for _, count in reasons)
         return room.get_template("page.html").render(
             {
@@ -221,9 +223,9 @@ class Page:
         return [Tick((tick.at - LEFT) / (WIDTH - LEFT) * 100, tick.text) for tick in axis.ticks(3)]
 
     @staticmethod
-    def _part(room: Any, name: str) -> tuple[str, str]:
+    def _part(name: str) -> tuple[str, str]:
         """A file that stands in the page as it is, and its sum, by which the page allows it."""
         from markupsafe import Markup
 
-        text = room.loader.get_source(room, name)[0]
+        text = (HERE / name).read_text(encoding="utf-8")
         return Markup(text), base64.b64encode(hashlib.sha256(text.encode()).digest()).decode()

@@ -1,7 +1,7 @@
 """All four captures of a run as one, for Wireshark: in the run's order, each frame behind the one that it became, with comments. What is written
 here of the format (draft-ietf-opsawg-pcapng) are three blocks: a section's head, an interface and a frame."""
 import struct
-from typing import BinaryIO
+from typing import IO
 
 from rendapil.bindings import SIDES
 from rendapil.files import Frame
@@ -26,7 +26,7 @@ def block(kind: int, body: bytes, *options: tuple[int, bytes]) -> bytes:
 class Commented:
     """Writes a capture in the format pcapng with the frames of a run. `links` are those of left-in, left-out, right-in and right-out."""
 
-    def __init__(self, file: BinaryIO, links: list[int], verdicts: dict[str, Verdict], scan: Scan | None = None) -> None:
+    def __init__(self, file: IO[bytes], links: list[int], verdicts: dict[str, Verdict], scan: Scan | None = None) -> None:
         self._verdicts, self._scan = verdicts, scan
         self._file = file
         self._file.write(block(0x0A0D0D0A, struct.pack("<IHHq", 0x1A2B3C4D, 1, 0, -1), (PROGRAM, b"rendapil explain")))

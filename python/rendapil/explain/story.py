@@ -8,6 +8,7 @@ from dataclasses import dataclass, field
 from itertools import islice
 
 from rendapil.bindings import ETHERNET, SIDES, Binding, Bindings, datagram_of
+from rendapil.document import Document
 from rendapil.files import SENT, Capture, Frame, Line, lines, shown
 from rendapil.frames import Event, address_of
 
@@ -94,8 +95,10 @@ class Refusals:
         """Reason, side and host with its frames: the most frequent ones, and at the end those that are summed."""
         if len(self._rows) > HOSTS:
             self._sum_rarest()
-        kept = [(reason, SIDES[side], named(host), row) for (reason, side, host), row in self._rows.items()]
-        summed = [(reason, SIDES[side], f"{count:,} other hosts", row) for (reason, side), (row, count) in self._summed.items()]
+        kept: list[tuple[str, str, str, Row]] = [(reason, SIDES[side], named(host), row) for (reason, side, host), row in self._rows.items()]
+        summed: list[tuple[str, str, str, Row]] = [
+            (reason, SIDES[side], f"{count:,} other hosts", row) for (reason, side), (row, count) in self._summed.items()
+        ]
         kept, summed = (sorted(rows, key=lambda one: -one[3].count) for rows in (kept, summed))
         return kept[:most] + summed
 
@@ -103,7 +106,7 @@ class Refusals:
 class Story:
     """What happened in a run. Those of `befores` are called with each event before the table of bindings takes it, those of `behinds` after."""
 
-    def __init__(self, settings: dict) -> None:
+    def __init__(self, settings: Document) -> None:
         self.bindings: list[Binding] = []
         self.left_out = self.missed = self.heartbeats = self.held = self.first = self.last = 0
         self.befores: list[Callable[[Event], object]] = []

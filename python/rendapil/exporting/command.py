@@ -7,6 +7,7 @@ from ipaddress import IPv4Address
 
 from rendapil.bindings import SIDES, pool_of
 from rendapil.check.settings import document_of
+from rendapil.document import Document, Side
 from rendapil.ending import ended
 from rendapil.files import shown
 
@@ -26,12 +27,12 @@ DYNAMIC = """\
 # can call these hosts first. The reference gives each host an alias of its own. Give a host that matters a static."""
 
 
-def pairs_of(settings: dict, side: str) -> list[tuple[str, str]]:
+def pairs_of(settings: Document, side: Side) -> list[tuple[str, str]]:
     """The hosts of a realm that have a static, each with its alias."""
     return [(row["host"], row["alias"]) for row in settings.get("static", []) if row["side"] == side]
 
 
-def free_range(settings: dict, side: str) -> tuple[int, int] | None:
+def free_range(settings: Document, side: Side) -> tuple[int, int] | None:
     """The longest range of a pool that no static has: aliases of hosts of the other realm."""
     first, last = pool_of(settings, side)
     taken = sorted(int(IPv4Address(alias)) for _, alias in pairs_of(settings, SIDES[1 - SIDES.index(side)]))
@@ -54,7 +55,7 @@ def map_lines(name: str, comment: str, pairs: list[tuple[str, str]]) -> list[str
     return [f"    # {comment}", f"    map {name} {{", "        type ipv4_addr : ipv4_addr", *elements, "    }", ""]
 
 
-def nftables(settings: dict, words: argparse.Namespace) -> list[str]:
+def nftables(settings: Document, words: argparse.Namespace) -> list[str]:
     """The rules for nft -f."""
     same = settings.get("same", [])
     lines = ["#!/usr/sbin/nft -f", f"# Written by rendapil export nftables of {shown(words.settings)}.", CANNOT]
@@ -106,7 +107,7 @@ def nftables(settings: dict, words: argparse.Namespace) -> list[str]:
 # iproute2.
 
 
-def iproute2(settings: dict, words: argparse.Namespace) -> list[str]:
+def iproute2(settings: Document, words: argparse.Namespace) -> list[str]:
     """The routes, as a shell script: what comes from one link leaves by the other one, whatever its address is."""
     lines = ["#!/bin/sh", f"# Written by rendapil export iproute2 of {shown(words.settings)}. Run it as root, before nft -f.", "set -e"]
     lines += ["modprobe -a nf_nat_ftp nf_conntrack_ftp 2>/dev/null || true # where they are modules"]
@@ -130,7 +131,7 @@ def iproute2(settings: dict, words: argparse.Namespace) -> list[str]:
 UNTRIED = "UNTRIED: no such router was at hand. These lines have the documented syntax, and nobody has loaded them. Hold the router against 'rendapil compare'."
 
 
-def cisco(settings: dict, words: argparse.Namespace) -> list[str]:
+def cisco(settings: Document, words: argparse.Namespace) -> list[str]:
     """The statics as Cisco's IOS has them: the left realm is the inside."""
     lines = [f"! Written by rendapil export cisco of {shown(words.settings)}.", f"! {UNTRIED}", "! Statics alone: no pools, no `same`, no routes."]
     lines += [f"interface {words.left}", " ip nat inside", f"interface {words.right}", " ip nat outside"]
@@ -139,7 +140,7 @@ def cisco(settings: dict, words: argparse.Namespace) -> list[str]:
     return lines
 
 
-def junos(settings: dict, words: argparse.Namespace) -> list[str]:
+def junos(settings: Document, words: argparse.Namespace) -> list[str]:
     """The statics as Juniper's Junos has them on an SRX: zones are called left and right."""
     lines = [f"# Written by rendapil export junos of {shown(words.settings)}.", f"# {UNTRIED}", "# Statics alone: no pools, no `same`, no routes."]
     lines += [f"set security zones security-zone {side} interfaces {getattr(words, side)}" for side in SIDES]

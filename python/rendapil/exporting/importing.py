@@ -5,7 +5,6 @@ import json
 import sys
 from collections.abc import Iterator
 from ipaddress import AddressValueError, IPv4Address, summarize_address_range
-from typing import Any
 
 from rendapil.bindings import SIDES
 from rendapil.ending import ended
@@ -20,7 +19,7 @@ LONGEST = 1 << 26
 Pairs = list[tuple[int, int]]
 
 
-def address_of(value: Any) -> int | None:
+def address_of(value: object) -> int | None:
     """An IPv4 address of a ruleset."""
     try:
         return int(IPv4Address(value)) if isinstance(value, str) else None
@@ -28,7 +27,7 @@ def address_of(value: Any) -> int | None:
         return None
 
 
-def pairs_in(elements: Any) -> Iterator[tuple[int, int]]:
+def pairs_in(elements: object) -> Iterator[tuple[int, int]]:
     """The pairs of addresses of a map."""
     for element in elements if isinstance(elements, list) else ():
         one, other = element if isinstance(element, list) and len(element) == 2 else (None, None)
@@ -40,7 +39,7 @@ def pairs_in(elements: Any) -> Iterator[tuple[int, int]]:
 class Ruleset:
     """What a ruleset translates: by the device of a link the destinations of what comes in there, each with the host that is meant."""
 
-    def __init__(self, entries: list[Any], left: str, right: str) -> None:
+    def __init__(self, entries: list[dict[str, object]], left: str, right: str) -> None:
         self._sides = {left: 0, right: 1}
         self._maps = {found.get("name"): list(pairs_in(found.get("elem"))) for one in entries if isinstance(found := one.get("map"), dict)}
         self.hosts: tuple[dict[int, int], dict[int, int]] = {}, {}
@@ -51,7 +50,7 @@ class Ruleset:
             if isinstance(rule := one.get("rule"), dict):
                 self._take(rule.get("expr"))
 
-    def _take(self, expressions: Any) -> None:
+    def _take(self, expressions: object) -> None:
         """Takes a rule."""
         side: int | None = None
         matched: int | None = None
@@ -64,7 +63,7 @@ class Ruleset:
                 case {"dnat": {"addr": to}}:
                     self._note(side, matched, to)
 
-    def _note(self, side: int | None, matched: int | None, to: Any) -> None:
+    def _note(self, side: int | None, matched: int | None, to: object) -> None:
         """Notes that what comes from a side for an alias goes to a host of the other one."""
         pairs: Pairs = []
         match to:

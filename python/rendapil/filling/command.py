@@ -45,7 +45,7 @@ def fill_capture(words: argparse.Namespace) -> int:
         raise Fault(f"{shown(words.new)} is the capture itself, and would be overwritten")
     counts: Counter[str] = Counter()
     link = None
-    with written(words.new, "wb") as file:
+    with written(words.new) as file:
         for record in frames_of(words.capture):
             if link is None:
                 link = RAW_IP if record.link in RAW else record.link

@@ -169,8 +169,9 @@ def host_of(request: bytes) -> bytes:
 def is_made_of(place: Place, before: bytes) -> bool:
     """Whether a Location begins with what was asked for: servers make it of Host then, to add a slash or to go over to HTTPS."""
     words = place.asked.split(b" ", 2)
-    target = re.match(rb"(?::\d+)?([^\r\n]*)", place.payload[place.find.end :])
-    return len(words) > 1 and bool(target) and target[1].startswith(words[1]) and target[1].strip(b"/ ") == words[1].strip(b"/ ")  # type: ignore[index]
+    found = re.match(rb"(?::\d+)?([^\r\n]*)", place.payload[place.find.end :])
+    target = found[1] if found else b""
+    return len(words) > 1 and target.startswith(words[1]) and target.strip(b"/ ") == words[1].strip(b"/ ")
 
 
 def of_smb(place: Place, before: bytes) -> Field | None:

@@ -102,7 +102,7 @@ class App:
         self.told: Counter[str] = Counter()
         self.told_flows: Counter[str] = Counter()
         self.trials = 0.0
-        self.sites: dict[tuple, Site] = {}
+        self.sites: dict[tuple[object, ...], Site] = {}
         self.strays: Counter[int] = Counter()
 
     @property

@@ -2,11 +2,12 @@
 from collections import Counter
 from ipaddress import IPv4Address, IPv4Network
 
-from rendapil.bindings import SIDES
+from rendapil.bindings import SECOND, SIDES
+from rendapil.explain.notes import Notes
 from rendapil.files import Capture, lines, shown
 from rendapil.frames import second_of, verdicts_of
 from rendapil.sayings import quoted
-from rendapil.trying.needs import SECOND, Need
+from rendapil.trying.needs import Need
 from rendapil.trying.two_realms import TwoRealms
 
 FRAGMENTS, STATICS = 100_000, 50
@@ -154,7 +155,7 @@ def pool_line(side: int, need: Need, fixed: int) -> str:
     return f"{front}: {counted(fixed, 'static')}{busiest}. So {least} address{'' if least == 1 else 'es'} at least; {least + -(-least // 2)} leave room to grow by half"
 
 
-def notes_of(realms: TwoRealms, verdicts: Counter[str], lost: int, command: str) -> dict[str, object]:
+def notes_of(realms: TwoRealms, verdicts: Counter[str], lost: int, command: str) -> Notes:
     """The same for the page: the command, what was left out and mended, hosts that need a static, and how large pools have to be."""
     left_out = [(count, what) for what, count in sorted(realms.left_out.items(), key=lambda one: -one[1])]
     changed = [
@@ -162,7 +163,7 @@ def notes_of(realms: TwoRealms, verdicts: Counter[str], lost: int, command: str)
         (realms.mended, "whose checksum was mended"),
         (lost, "held as fragments, whose packet never went out"),
     ]
-    statics = [
+    statics: list[tuple[str, str, list[str]]] = [
         (str(IPv4Address(address)), SIDES[host.side], [name for name, _ in host.ports.most_common(3)])
         for address, host in realms.hosts.items()
         if host.contacted_first
@@ -172,16 +173,17 @@ def notes_of(realms: TwoRealms, verdicts: Counter[str], lost: int, command: str)
         for side in (0, 1)
     ]
     odd = [f"{line[0].upper()}{line[1:]}." for line in realms.oddities.lines()] + limits(verdicts, realms)
-    return {
-        **{
-            "command": shown(command),
-            "went": verdicts.total(),
-            "left_out": left_out,
-            "changed": [one for one in changed if one[0]],
-            "lines": realms.lines,
-        },
-        **{"statics": statics[:STATICS], "statics_count": len(statics), "pools": pools, "odd": odd},
-    }
+    return Notes(
+        command=shown(command),
+        went=verdicts.total(),
+        left_out=left_out,
+        changed=[one for one in changed if one[0]],
+        lines=realms.lines,
+        statics=statics[:STATICS],
+        statics_count=len(statics),
+        pools=pools,
+        odd=odd,
+    )
 
 
 def again_of(called: str, capture: str, left: list[IPv4Network]) -> list[str]:

@@ -13,6 +13,7 @@ from ipaddress import IPv4Address, IPv4Network, collapse_addresses
 
 from rendapil.any_capture import Record, whole_of, why_none
 from rendapil.bindings import CHANGED, DNS_PORT, FTP_PORT, SIDES, SYN, TCP, UDP, Binding, Bindings, named_in
+from rendapil.document import Document, RealmTable, StaticTable
 from rendapil.files import RAW_IP, bare_head, record_head, shown
 from rendapil.packet import ICMP, Packet, is_host
 from rendapil.settings_text import pool_table, same_line, static_table
@@ -205,16 +206,14 @@ class TwoRealms:
                 wanted = first - 1 + address % 256
                 host.alias = wanted if wanted in free else next(one for one in least if one in free)
                 free.remove(host.alias)
-        realms = {
-            side: {"pool_first": str(IPv4Address(first)), "pool_last": str(IPv4Address(last))} for side, (first, last) in zip(SIDES, self.pools)
-        }
+        left, right = (RealmTable(pool_first=str(IPv4Address(first)), pool_last=str(IPv4Address(last)), link="raw") for first, last in self.pools)
         rows = [
-            {"side": SIDES[one.side], "host": str(IPv4Address(address)), "alias": str(IPv4Address(one.alias))}
+            StaticTable(side=SIDES[one.side], host=str(IPv4Address(address)), alias=str(IPv4Address(one.alias)))
             for address, one in self.hosts.items()
             if one.alias
         ]
         same = [str(block) for block in self.same]
-        self._table = Bindings({**realms, "static": rows, "same": same}, lambda one: self._bound.update({(one.side, one.host): one}))
+        self._table = Bindings(Document(left=left, right=right, static=rows, same=same), lambda one: self._bound.update({(one.side, one.host): one}))
 
     def _alias(self, address: int, moment: int, speaks: bool = False) -> int:
         """What a host is called in the other realm: by its static, or by the alias that it has, or had last. A host that speaks gets one."""
