@@ -181,9 +181,11 @@ class Evidence(unittest.TestCase):
         self.assertEqual(told_rows(scan), [])
 
     def test_hidden(self) -> None:
-        """What can't be read is told without a find: FTP that turns to TLS, too."""
-        rows = told_rows(scan_of(("10.0.0.5", 4000, 21, b"AUTH TLS\r\n"), ("10.0.0.5", 4001, 853, b"\x16\x03\x01"), protocol=TCP))
-        self.assertEqual(sorted(row.application for row in rows), ["DNS over TLS, TCP port 853", "FTP over TLS, TCP port 21"])
+        """What can't be read is told without a find: FTP that turns to TLS, too, if its server lets it."""
+        dns, asks = ("10.0.0.5", 4001, 853, b"\x16\x03\x01"), ("10.0.0.5", 4000, 21, b"AUTH TLS\r\n")
+        for answer, told in ((b"234 Proceed.\r\n", ["FTP over TLS, TCP port 21"]), (b"530 Please login.\r\n", [])):
+            rows = told_rows(scan_of(asks, ("10.0.0.6", 21, 4000, answer), dns, protocol=TCP))
+            self.assertEqual(sorted(row.application for row in rows), ["DNS over TLS, TCP port 853", *told])
 
     def test_room(self) -> None:
         """What is kept has a limit, whoever makes up flows, applications and places."""

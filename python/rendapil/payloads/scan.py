@@ -153,7 +153,7 @@ class Scan:
             flow.asked = payload[:LONG]
         finds = self._finds(flow, payload)
         if flow.is_changed:
-            if app.of.name == "FTP" and payload[:5].upper() == b"AUTH ":
+            if app.of.name == "FTP" and flow.is_served and payload[:3] == b"234":  # the answer to AUTH that lets TLS begin (RFC 4217, 4)
                 self._app(BY_NAME["FTP over TLS"], TCP, FTP_PORT).flows += 1
             # What a fragment was a part of isn't known before it was changed.
             finds = list(self._unchanged(flow, key, finds, payload, sent)) if finds and not is_joined else []
