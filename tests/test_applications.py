@@ -5,13 +5,15 @@ import sys
 import tempfile
 import tomllib
 import unittest
+from typing import Any
 from ipaddress import IPv4Network
 
 from testing import PROGRAM, TESTS
 
-from rendapil.comparing.captures import records
+from rendapil.document import document_in
 from rendapil.explain.story import Story
 from rendapil.payloads.scan import Scan, Told, meaning_in, told_rows
+from rendapil.readers import records
 from rendapil.trying.two_realms import TwoRealms, write_captures
 
 FOLDER = f"{TESTS}/applications"
@@ -24,26 +26,26 @@ def told_of(path: str, room: str) -> list[Told]:
     """What is told of a capture whose left realm is 10.1.0.0/16, by a run of the gateway."""
     realms = TwoRealms(LEFT, [], True)
     realms.survey(records(path))
-    names = [f"{room}/{name}" for name in ("settings.toml", "left", "right", "left-out", "right-out", "report")]
-    write_captures(names[1:3], realms.crossing(records(path)))
+    settings, left, right, left_out, right_out, report = (f"{room}/{name}" for name in ("settings.toml", "l", "r", "lo", "ro", "report"))
+    write_captures([left, right], realms.crossing(records(path)))
     text = realms.settings()
-    with open(names[0], "w", encoding="ascii") as file:
+    with open(settings, "w", encoding="ascii") as file:
         file.write(text)
-    subprocess.run([PROGRAM, "run", *names], check=True)
-    story = Story(tomllib.loads(text))
+    subprocess.run([PROGRAM, "run", settings, left, right, left_out, right_out, report], check=True)
+    story = Story(document_in(text))
     scan = Scan(meaning_in(story.table))
     story.behinds.append(scan.event)
-    story.read(*names[1:], None)
+    story.read(left, right, left_out, right_out, report)
     return told_rows(scan)
 
 
-def sessions() -> dict[str, dict]:
+def sessions() -> dict[str, dict[str, Any]]:
     """What is true of each session that has a capture."""
     with open(f"{FOLDER}/sessions.toml", "rb") as file:
         return {name: one for name, one in tomllib.load(file).items() if os.path.exists(f"{FOLDER}/{name}.pcap.gz")}
 
 
-def fault_in(session: dict, rows: list[Told]) -> str:
+def fault_in(session: dict[str, Any], rows: list[Told]) -> str:
     """What is told wrongly of a session, if anything is: what breaks is the first row, by its name, but for what it uses that breaks too; of what works no
     row says that it breaks."""
     breaking = [

@@ -5,7 +5,6 @@ import random
 import struct
 import tempfile
 import time
-import tomllib
 import unittest
 from collections.abc import Iterator
 from ipaddress import IPv4Address
@@ -14,6 +13,7 @@ from typing import NamedTuple
 from testing import CASE, INPUTS, OUTPUTS, PROGRAM, RIGHT, datagram
 
 from rendapil import bindings  # noqa: I001
+from rendapil.document import Document, RealmTable, StaticTable, document_in
 from rendapil.bindings import ACK, FIN, SECOND, SIDES, SYN, TCP, UDP, Binding, Bindings
 from dialogues import Dialogues
 from datagrams import fragments, quad, tcp, udp
@@ -93,8 +93,8 @@ def events_of(left: str, right: str, left_out: str, right_out: str, report: str)
 
 def checked_over(settings: str, *files: str) -> Checked:
     """The table after a run, each of whose events is held against it."""
-    with open(settings, "rb") as file:
-        table = Checked(tomllib.load(file), lambda _: None)
+    with open(settings, encoding="utf-8") as file:
+        table = Checked(document_in(file.read()), lambda _: None)
     for event in events_of(*files):
         table.event(*event)
     return table
@@ -151,8 +151,8 @@ class Follows:
 
     def __init__(self) -> None:
         pools = {"left": ("192.168.200.1", "192.168.200.9"), "right": ("172.16.9.1", "172.16.9.9")}
-        settings: dict = {side: {"pool_first": first, "pool_last": last} for side, (first, last) in pools.items()}
-        settings["static"] = [{"side": "right", "host": "10.0.0.53", "alias": "192.168.200.1"}]
+        left, right = (RealmTable(pool_first=first, pool_last=last, link="raw") for first, last in pools.values())
+        settings = Document(left=left, right=right, static=[StaticTable(side="right", host="10.0.0.53", alias="192.168.200.1")])
         self.found: list[Binding] = []
         self.table = Bindings(settings, self.found.append)
 
@@ -253,7 +253,7 @@ class Hostile(unittest.TestCase):
 
     def setUp(self) -> None:
         """A table of two pools of 65,536."""
-        self.table = Bindings(tomllib.loads(LARGE), lambda _: None)
+        self.table = Bindings(document_in(LARGE), lambda _: None)
 
     def passes(self, second: float, came: bytes, *sent: bytes) -> float:
         """How many seconds of processor the table takes for a datagram from the left, and of those that were sent for it."""

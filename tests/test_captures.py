@@ -51,7 +51,7 @@ class Captures(unittest.TestCase):
         parts = list(fragments(udp("10.0.0.9", 4, "192.168.200.1", 5, bytes(64)), 40))
         left = self.write("left", capture([GOOD, FAR, OWN, FAR, FAR, *parts]))
         right = self.write("right", capture(ether)[:20] + struct.pack("<I", 1) + capture(ether)[24:])
-        found = [re.match(r".*/(\w+): (\d+) of (\d+) frames .*?: (\w+)", line).groups() for line in self.lines(left, right)]
+        found = re.findall(r"^.*/(\w+): (\d+) of (\d+) frames .*?: (\w+)", "\n".join(self.lines(left, right)), re.M)
         expected = [("left", "3", "7", "NoBinding"), ("left", "2", "7", "Fragment"), ("left", "1", "7", "SourceInPool")]
         self.assertEqual(found, [*expected, ("right", "2", "3", "BadSum"), ("right", "1", "3", "NotIpv4")])
         if os.access(PROGRAM, os.X_OK):

@@ -12,6 +12,7 @@ import unittest
 from collections.abc import Callable
 from importlib.util import find_spec
 from ipaddress import IPv4Address
+from typing import Any
 from unittest import mock
 
 from testing import CASE, COMPARE, PROGRAM, RIGHT
@@ -49,12 +50,12 @@ def pcap(frames: Frames, link: int = 101) -> bytes:
     return head + b"".join(struct.pack("<IIII", *divmod(moment, 10**9), len(octets), len(octets)) + octets for moment, octets in frames)
 
 
-def said(*words: str) -> tuple[int, dict]:
+def said(*words: str) -> tuple[object, dict[str, Any]]:
     """Status of `compare`, and what it says as JSON."""
     out = io.StringIO()
     with mock.patch.object(sys, "argv", ["compare", *words, "--json", "--program", PROGRAM]), contextlib.redirect_stdout(out):
         try:
-            status = comparing.main()
+            status: object = comparing.main()
         except SystemExit as ended:
             status = ended.code
     return status, json.loads(out.getvalue()) if out.getvalue() else {}
@@ -100,7 +101,7 @@ class Compared(unittest.TestCase):
             out.write(octets)
         return path
 
-    def compared(self, *options: str) -> tuple[int, dict[str, list[str]]]:
+    def compared(self, *options: str) -> tuple[object, dict[str, list[str]]]:
         """Status, and the causes by kind."""
         names = ("left-in", "right-in", "left-out", "right-out")
         files = [self.file(name, pcap(frames)) for name, frames in zip(names, self.came + self.went)]

@@ -24,6 +24,8 @@ from unittest import mock
 from testing import CASE, CHECK, EXPLAIN, INPUTS, LIVE, MERGER, OUTPUTS, PROGRAM, RIGHT, TOP, datagram, said
 
 from rendapil import bindings, frames
+from rendapil.document import document_in
+from rendapil.files import Frame
 from rendapil.explain import command as explain, gathered as collected, story as stories
 
 HAS_JINJA = bool(find_spec("jinja2")) or said("/usr/bin/python3", "-I", "-c", "import jinja2, tomllib")[0] == 0
@@ -36,9 +38,10 @@ HOSTILE = b"<script>document.title='owned'</script><img src=x onerror=\"document
 
 def story_of(settings: str, *files: str) -> stories.Story:
     """The story of a run."""
-    with open(settings, "rb") as file:
-        story = stories.Story(tomllib.load(file))
-    story.read(*files)
+    with open(settings, encoding="utf-8") as file:
+        story = stories.Story(document_in(file.read()))
+    left, right, left_out, right_out, report = files
+    story.read(left, right, left_out, right_out, report)
     return story
 
 
@@ -88,7 +91,10 @@ def session(port: int, *payloads: tuple[bytes, bytes]) -> list[Happened]:
     for came, went in payloads:
         parts.append((0, 24, at, came, went))
         at += len(came)
-    return [Happened(side, bindings.TCP, *(segment(side, port, flags, number, text) for text in texts)) for side, flags, number, *texts in parts]
+    return [
+        Happened(side, bindings.TCP, segment(side, port, flags, number, came), segment(side, port, flags, number, went))
+        for side, flags, number, came, went in parts
+    ]
 
 
 def named(name: bytes) -> bytes:
@@ -235,6 +241,7 @@ class Explain(InRoom):
     def test_where_it_writes(self) -> None:
         """A reader that has enough ends it quietly; a full disk is told; Python 3.10 is told."""
         with subprocess.Popen([*EXPLAIN, "--events", *CASE], stdout=subprocess.PIPE, stderr=subprocess.PIPE) as command:
+            assert command.stdout and command.stderr
             command.stdout.readline()
             command.stdout.close()
             self.assertEqual((command.stderr.read(), command.wait()), (b"", -13))
@@ -244,7 +251,8 @@ class Explain(InRoom):
 
     def test_colours(self) -> None:
         """Reasons are red on a terminal, unless NO_COLOR or TERM say otherwise."""
-        for names, is_red in (({}, True), ({"NO_COLOR": "1"}, False), ({"TERM": "dumb"}, False)):
+        cases: list[tuple[dict[str, str], bool]] = [({}, True), ({"NO_COLOR": "1"}, False), ({"TERM": "dumb"}, False)]
+        for names, is_red in cases:
             own, other = pty.openpty()
             kept = {name: value for name, value in os.environ.items() if name != "NO_COLOR"}
             subprocess.run([*EXPLAIN, *INPUTS, *OUTPUTS], env={**kept, "TERM": "xterm", **names}, stdout=other, check=True)
@@ -259,7 +267,7 @@ class Explain(InRoom):
     def test_many_hosts_are_summed(self) -> None:
         """Of more hosts than are kept the rarest are summed, so that all counts stay right; so are the destinations of one."""
         refusals = stories.Refusals()
-        frame = stories.Frame(b"x", 1, 101, 1)
+        frame = Frame(b"x", 1, 101, 1)
 
         def refused(number: int, host: int, to: int) -> None:
             one = datagram(f"10.1.{host >> 8}.{host & 255} > 10.2.0.{to}", 17, b"")
@@ -288,7 +296,7 @@ class Explain(InRoom):
 class Damaged(InRoom):
     """Files that no run wrote."""
 
-    FORMS = ([], ["--json"], ["--events"], ["--pcapng", "PCAPNG"], ["--statics"])
+    FORMS: tuple[list[str], ...] = ([], ["--json"], ["--events"], ["--pcapng", "PCAPNG"], ["--statics"])
 
     def asked(self, words: list[str]) -> tuple[object, str]:
         """Status, or the line that it ends with, and output of the command, in this process."""
@@ -324,7 +332,11 @@ class Damaged(InRoom):
 
     def test_faults_of_the_tool(self) -> None:
         """What nobody foresaw is told in one line, with its place."""
-        with mock.patch.object(explain, "tell", lambda *_: {}["x"]):
+
+        def ends(*_: object) -> None:
+            raise KeyError
+
+        with mock.patch.object(explain, "tell", ends):
             status, _ = self.asked([*INPUTS, *OUTPUTS])
         self.assertRegex(
             str(status), r"^rendapil explain: a fault of this tool, and not of your files: KeyError at test_explain.py:\d+. Please report it$"
@@ -533,7 +545,8 @@ class Lines(InRoom):
         self.assertEqual(said(*EXPLAIN, "--pcapng", f"{self.room}/run.pcapng", *CASE), (0, ""))
         rows = self.read_back()
         self.assertEqual([sum(row[0] == name for row in rows) for name in ("left-in", "right-in", "left-out", "right-out")], [1050, 1175, 1156, 1025])
-        self.assertEqual(sorted(rows, key=lambda row: row[1]), rows)
+        times = [row[1] for row in rows]
+        self.assertEqual(sorted(times), times)
         self.assertEqual(sum("NoBinding" in row[2] for row in rows), 2)
         files = write_run(self.room, session(21, (HOSTILE + b"\r\n", b"\x1b" + HOSTILE + b"\r\n")))
         self.assertEqual(said(*EXPLAIN, "--pcapng", f"{self.room}/run.pcapng", *files), (0, ""))

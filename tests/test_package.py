@@ -5,10 +5,8 @@ import shutil
 import subprocess
 import tempfile
 import unittest
-from importlib.machinery import SourceFileLoader
-from importlib.util import module_from_spec, spec_from_loader
 
-from testing import INPUTS, MERGER, PROGRAM, TOP, said
+from testing import INPUTS, MERGER, PROGRAM, TOP, said, script
 
 PACKAGERS = ("dpkg-buildpackage", "dh", "dh_python3")
 
@@ -59,10 +57,8 @@ class Installed(unittest.TestCase):
     @unittest.skipUnless(shutil.which("lowdown"), "there is no lowdown")
     def test_settings_page(self) -> None:
         """rendapil-settings(5) is what packaging/settings_page makes of docs/SETTINGS.md."""
-        module = module_from_spec(spec_from_loader("settings_page", SourceFileLoader("settings_page", f"{TOP}/packaging/settings_page")))
-        module.__loader__.exec_module(module)
         with open(f"{TOP}/packaging/rendapil-settings.5", encoding="utf-8") as file:
-            self.assertEqual(module.page(), file.read())
+            self.assertEqual(script(f"{TOP}/packaging/settings_page").page(), file.read())
 
     @unittest.skipUnless(shutil.which("man"), "there is no man")
     def test_pages_fit(self) -> None:

@@ -6,15 +6,17 @@ import struct
 import time
 import tomllib
 import unittest
+from collections.abc import Iterable
 from ipaddress import IPv4Address, IPv4Network
 
 from testing import CHECK, EXPLAIN, PLAN, PROGRAM, RIGHT, capture, said
 
 from datagrams import fragments, icmp, tcp, udp  # testing says where it is
 from rendapil.bindings import TCP, UDP, Bindings
+from rendapil.document import document_in
 from rendapil.packet import Packet
-from rendapil.payloads import scan as scanning
-from rendapil.payloads.addresses import octets_in, stun_in, texts_in, words_at
+from rendapil.payloads import kept
+from rendapil.payloads.addresses import Find, octets_in, stun_in, texts_in, words_at
 from rendapil.payloads.applications import APPLICATIONS, application_of
 from rendapil.payloads.scan import HOST, Meant, Scan, lines_of, meaning_in, told_rows
 from rendapil.payloads.structures import MAPPED
@@ -39,14 +41,17 @@ HOSTS = {"10.0.0.5": "172.16.9.1", "10.0.0.6": "172.16.9.6", "10.0.0.7": "172.16
 
 def scan_of(*payloads: tuple[str, int, int, bytes], protocol: int = UDP) -> Scan:
     """What is found in payloads of left hosts to 192.168.200.1, each given with its host and ports."""
-    scan = Scan(meaning_in(Bindings(tomllib.loads(RIGHT + STATICS), lambda _: None)))
+    scan = Scan(meaning_in(Bindings(document_in(RIGHT + STATICS), lambda _: None)))
     for number, (host, port, far_port, payload) in enumerate(payloads, 1):
-        make = (lambda *ends: tcp(*ends, 24, 1, 1, payload)) if protocol == TCP else (lambda *ends: udp(*ends, payload))
-        scan.take(number, 0, make(host, port, "192.168.200.1", far_port), [make(HOSTS[host], port, "10.0.0.5", far_port)])
+        came, sent = (
+            tcp(source, port, destination, far_port, 24, 1, 1, payload) if protocol == TCP else udp(source, port, destination, far_port, payload)
+            for source, destination in ((host, "192.168.200.1"), (HOSTS[host], "10.0.0.5"))
+        )
+        scan.take(number, 0, came, [sent])
     return scan
 
 
-def named(finds) -> list[str]:
+def named(finds: Iterable[Find]) -> list[str]:
     """Addresses as text."""
     return [str(IPv4Address(one.address)) for one in finds if not one.is_vague]
 
@@ -153,7 +158,7 @@ class Evidence(unittest.TestCase):
         self.assertEqual([row.sure for row in told_rows(scan_of(*frames))], ["sure"])
         self.assertEqual([row.sure for row in told_rows(scan_of(*frames[::3]))], ["likely"])
         self.assertEqual([(row.sure, row.chance) for row in told_rows(scan_of(frames[0]))], [("maybe", told_rows(scan_of(frames[0]))[0].chance)])
-        self.assertLess(told_rows(scan_of(frames[0]))[0].chance, 1e-6)
+        self.assertLess(told_rows(scan_of(frames[0]))[0].chance or 1, 1e-6)
         turned = [(host, 999, 999, b"\1\2\3\4" + IPv4Address(host).packed[::-1] + bytes([turn]) * 9) for turn in range(3) for host in HOSTS]
         self.assertEqual([(row.sure, "with the last first" in row.examples[0]) for row in told_rows(scan_of(*turned))], [("sure", True)])
 
@@ -167,7 +172,7 @@ class Evidence(unittest.TestCase):
 
     def test_what_the_gateway_changes(self) -> None:
         """Of FTP, DNS and SNMP what went out as it came."""
-        table = Bindings(tomllib.loads(RIGHT + STATICS), lambda _: None)
+        table = Bindings(document_in(RIGHT + STATICS), lambda _: None)
         for came, went, expected in (
             (b"PORT 10,0,0,5,4,1\r\n", b"PORT 172,16,9,1,4,1\r\n", 0),
             (b"PORT 10,0,0,6,4,1\r\n", b"PORT 10,0,0,6,4,1\r\n", 1),
@@ -201,9 +206,9 @@ class Evidence(unittest.TestCase):
                 text,
             )
             scan.take(number, number % 2, one, [one])
-        self.assertLessEqual(len(scan._flows), scanning.FLOWS)
-        self.assertLessEqual(len(scan.apps), scanning.APPS + len(APPLICATIONS) + 2)
-        self.assertLessEqual(max(len(app.sites) for app in scan.apps.values()), scanning.SITES)
+        self.assertLessEqual(len(scan._flows), kept.FLOWS)
+        self.assertLessEqual(len(scan.apps), kept.APPS + len(APPLICATIONS) + 2)
+        self.assertLessEqual(max(len(app.sites) for app in scan.apps.values()), kept.SITES)
 
     def test_hostile(self) -> None:
         """Whatever a payload is, nothing ends the scan, and what is told has no control characters."""
@@ -312,7 +317,7 @@ class Fields(unittest.TestCase):
 
     def test_redirects(self) -> None:
         """What is made of Host would have the alias, and works; so does what the proxy's own realm has."""
-        table = Bindings(tomllib.loads(RIGHT + STATICS), lambda _: None)
+        table = Bindings(document_in(RIGHT + STATICS), lambda _: None)
         for target, location, weight in ((b"/d", b"/d/", "tells"), (b"/d", b"/e", "breaks")):
             scan = Scan(meaning_in(table))
             ends, back = ("10.0.0.7", 4000, "192.168.200.9", 80), ("10.0.0.9", 80, "172.16.9.7", 4000)
@@ -328,7 +333,7 @@ class Fields(unittest.TestCase):
 
     def test_known_to_the_reader(self) -> None:
         """What the reader itself calls a host of the sender's realm is right there, and isn't told."""
-        scan = Scan(meaning_in(Bindings(tomllib.loads(RIGHT + STATICS), lambda _: None)))
+        scan = Scan(meaning_in(Bindings(document_in(RIGHT + STATICS), lambda _: None)))
         answer = b"HTTP/1.1 301 Moved\r\nLocation: http://192.168.200.9/x\r\n\r\n"
         scan.take(1, 1, tcp("10.0.0.9", 80, "172.16.9.7", 4000, 24, 1, 1, answer), [tcp("192.168.200.9", 80, "10.0.0.7", 4000, 24, 1, 1, answer)])
         self.assertEqual([row for row in told_rows(scan) if row.weight != "hidden"], [])

@@ -89,7 +89,7 @@ class Script(unittest.TestCase):
     def test_nothing_is_built_for_help(self) -> None:
         """Help, the version and mistyped words need no program, and no words start a build but those of a command."""
         os.remove(self.program)
-        for words, status, front in (
+        fronts: list[tuple[list[str], int, str]] = [
             (["--help"], 0, "usage: rendapil "),
             (["-h"], 0, "usage: "),
             (["--version"], 0, "rendapil 1."),
@@ -101,7 +101,8 @@ class Script(unittest.TestCase):
             (["help", "try"], 0, "usage: rendapil try "),
             *(([word, "--help"], 0, f"usage: rendapil {word} ") for word in ("run", "audit", "make", "check", "explain", "try")),
             *(([word, "--help"], 0, f"usage: rendapil {word}\n") for word in ("test", "prove")),
-        ):
+        ]
+        for words, status, front in fronts:
             code, text = self.told(*words)
             self.assertEqual((code, text[: len(front)]), (status, front))
         self.assertFalse(self.was_called("rt") or self.was_called("quick"))
@@ -371,7 +372,7 @@ class Script(unittest.TestCase):
             self.write(f"{layer}/{os.path.basename(layer)}.pcap", b"kept")
         options = f"lowerdir={lower},upperdir={upper},workdir={work}"
         subprocess.run(["mount", "-t", "overlay", "overlay", "-o", options, merged], check=True)
-        self.addCleanup(subprocess.run, ["umount", merged], check=True)
+        self.addCleanup(lambda: subprocess.run(["umount", merged], check=True))
         for layer in (lower, upper):
             name = f"{os.path.basename(layer)}.pcap"
             code, text = self.told(*self.run_words(left_in=f"{merged}/{name}", left_out=f"{layer}/{name}"))

@@ -19,6 +19,11 @@ def text_of(pattern: str) -> str:
 class Standards(unittest.TestCase):
     """What the page of standards says."""
 
+    page: str
+    code: str
+    specs: str
+    rows: list[list[str]]
+
     @classmethod
     def setUpClass(cls) -> None:
         """Reads the page and the sources."""
@@ -39,7 +44,7 @@ class Standards(unittest.TestCase):
 
     def test_names(self) -> None:
         """Each name stands in the sources as what the page calls it."""
-        found = Counter()
+        found: Counter[str] = Counter()
         for kind, names in NAMED.findall(self.page):
             for name in re.findall(r"`(\w+)`", names):
                 found[kind] += 1

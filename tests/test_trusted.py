@@ -3,11 +3,9 @@ import tempfile
 import unittest
 from pathlib import Path
 
-from importlib import import_module
-
 from testing import TOP
 
-trusted = import_module("trusted")
+import trusted  # testing says where it is
 
 DEFINITIONS = """-- A comment.
 use Rattle.below.specs.Words.{plain, ◌>>=◌, twice as double}
@@ -63,7 +61,8 @@ class Trusted(unittest.TestCase):
         self.assertEqual(module.built, {"Forth": "Way", "Back": "Way", "To": "Way"})
         self.assertEqual(module.imported["double"], ("Rattle.below.specs.Words", "twice"))
         before = dict(trusted.MODULES)
-        self.addCleanup(lambda: (trusted.MODULES.clear(), trusted.MODULES.update(before)))
+        self.addCleanup(trusted.MODULES.update, before)
+        self.addCleanup(trusted.MODULES.clear)
         below = {"plain": ["plain : ℕ"], "◌>>=◌": ["◌>>=◌ : ℕ"], "twice": ["twice : ℕ"]}
         trusted.MODULES |= {"Rattle.ways.specs.Ways": module, "Rattle.below.specs.Words": trusted.Module(below)}
         trusted.MODULES["Rattle.below.specs.Others"] = trusted.Module({"turned": ["turned : ℕ"]})

@@ -223,8 +223,8 @@ class Try(InRoom):
         frames = [tcp(*ends, 2, 100, 0), tcp(*back, 18, 200, 101), tcp(*ends, 16, 101, 201)]
         ask, answer = 101, 201
         for number in range(4):
-            name = b"\x03%d\x03211\x03158\x03216\x07in-addr\x04arpa\0" % (number + 140)
-            question = struct.pack(">6H", number, 0, 1, 0, 0, 0) + name + struct.pack(">HH", 12, 1)
+            asked = b"\x03%d\x03211\x03158\x03216\x07in-addr\x04arpa\0" % (number + 140)
+            question = struct.pack(">6H", number, 0, 1, 0, 0, 0) + asked + struct.pack(">HH", 12, 1)
             one, other = (struct.pack(">H", len(part)) + part for part in (question, question[:2] + b"\x80" + question[3:]))
             frames += [
                 tcp(*ends, 24, ask, answer, one),

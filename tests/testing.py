@@ -4,14 +4,17 @@ import struct
 import subprocess
 import sys
 from collections.abc import Iterable
+from importlib.machinery import SourceFileLoader
+from importlib.util import module_from_spec, spec_from_loader
 from ipaddress import IPv4Address
+from types import ModuleType
 
 sys.dont_write_bytecode = True
 TESTS = os.path.dirname(os.path.realpath(__file__))
 TOP = os.path.dirname(TESTS)
 TOOLS = f"{TOP}/tools"
 BUILT = [f"{TOP}/{name}/gateway_program" for name in ("crates/gateway_program/out", "prebuilt/x86_64-linux")]
-PROGRAM = os.environ.get("PROGRAM") or next((path for path in BUILT if os.access(path, os.X_OK)), BUILT[0])
+PROGRAM = os.environ.get("PROGRAM", "") or next((path for path in BUILT if os.access(path, os.X_OK)), BUILT[0])
 MERGER, LIVE = f"{TOP}/examples/merger", f"{TESTS}/live_case"
 INPUTS = [f"{MERGER}/settings.toml", f"{MERGER}/north.pcap", f"{MERGER}/south.pcap"]
 OUTPUTS = [f"{TESTS}/merger_run/{name}" for name in ("north-out.pcap", "south-out.pcap", "report.txt")]
@@ -30,6 +33,16 @@ def said(*words: str) -> tuple[int, str]:
     """Status and output of a command, standard error with it."""
     done = subprocess.run(words, stdout=subprocess.PIPE, stderr=subprocess.STDOUT, text=True, check=False)
     return done.returncode, done.stdout
+
+
+def script(path: str) -> ModuleType:
+    """A script without an ending as a module."""
+    loader = SourceFileLoader(f"script_{os.path.basename(path)}", path)
+    spec = spec_from_loader(loader.name, loader)
+    assert spec
+    module = sys.modules[loader.name] = module_from_spec(spec)
+    loader.exec_module(module)
+    return module
 
 
 def datagram(ways: str, protocol: int, payload: bytes) -> bytes:

@@ -4,8 +4,8 @@ import contextlib
 import os
 import subprocess
 import sys
-import tomllib
 import tempfile
+import tomllib
 from collections import deque
 from ipaddress import IPv4Address
 

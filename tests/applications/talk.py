@@ -41,7 +41,10 @@ def getaddr() -> None:
     """Asks rpcbind for the universal address of a program (RPCB_GETADDR of version 3)."""
     one = socket.socket(socket.AF_INET, socket.SOCK_DGRAM)
     one.settimeout(2)
-    text = lambda word: struct.pack(">I", len(word)) + word + bytes(-len(word) % 4)
+
+    def text(word: bytes) -> bytes:
+        return struct.pack(">I", len(word)) + word + bytes(-len(word) % 4)
+
     call = struct.pack(">IIIIIIIIII", 9, 0, 2, 100000, 3, 3, 0, 0, 0, 0)
     one.sendto(call + struct.pack(">II", 100000, 3) + text(b"udp") + text(b"10.2.0.9.0.111") + text(b"me"), ("10.2.0.9", 111))
     print(one.recv(999))
