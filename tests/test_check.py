@@ -5,6 +5,8 @@ import unittest
 
 from testing import CHECK, INPUTS, LIVE, MERGER, PROGRAM, RIGHT, TOP, said
 
+from rendapil.files import plain, shown  # testing says where it is
+
 FAULTS = (
     ("left = 5", "Kind left"),
     (RIGHT.replace('"raw"', '"Raw"'), "Kind left.link"),
@@ -103,6 +105,13 @@ class Check(unittest.TestCase):
         lines = self.lines_of("".join(f"k{number} = 1\n" for number in range(60_000)) + RIGHT)
         self.assertEqual((len(lines), lines[-1]), (21, "59980 more keys aren't known, and are ignored"))
         self.assertEqual(len(self.lines_of(RIGHT + "x = " + "1" * 5_000)), 1)
+
+    def test_escapes(self) -> None:
+        """Text and octets from outside have no control characters once they are told."""
+        for text, told in (("a é", "a é"), ("\x1b[2J\n", "\\x1b[2J\\n"), ("\udcff", "\\xff"), ("\u202e\U000e0001", "\\u202e\\U000e0001")):
+            self.assertEqual(shown(text), told)
+        self.assertEqual(plain(b"a \x1b\n\xff"), "a \\x1b\\x0a\\xff")
+        self.assertEqual(plain(b"a" * 400), "a" * 300 + "… and 100 bytes more")
 
     def test_unkept_aliases(self) -> None:
         """SNMP messages that tell aliases are minded where a realm has no static, and not by a run."""

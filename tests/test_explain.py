@@ -374,7 +374,7 @@ class Damaged(InRoom):
         """Control characters in the names of files are escaped."""
         name = f"{self.room}/a\x1b[2J\n\udcff"
         status, text = said(*EXPLAIN, name, *INPUTS[1:], *OUTPUTS)
-        self.assertEqual((status, text), (1, f"rendapil explain: {self.room}/a\\x1b[2J\\n\\udcff: No such file or directory\n"))
+        self.assertEqual((status, text), (1, f"rendapil explain: {self.room}/a\\x1b[2J\\n\\xff: No such file or directory\n"))
 
 
 class Parsed(HTMLParser):

@@ -188,7 +188,8 @@ class Evidence(unittest.TestCase):
     def test_hidden(self) -> None:
         """What can't be read is told without a find: FTP that turns to TLS, too, if its server lets it."""
         dns, asks = ("10.0.0.5", 4001, 853, b"\x16\x03\x01"), ("10.0.0.5", 4000, 21, b"AUTH TLS\r\n")
-        for answer, told in ((b"234 Proceed.\r\n", ["FTP over TLS, TCP port 21"]), (b"530 Please login.\r\n", [])):
+        answers: list[tuple[bytes, list[str]]] = [(b"234 Proceed.\r\n", ["FTP over TLS, TCP port 21"]), (b"530 Please login.\r\n", [])]
+        for answer, told in answers:
             rows = told_rows(scan_of(asks, ("10.0.0.6", 21, 4000, answer), dns, protocol=TCP))
             self.assertEqual(sorted(row.application for row in rows), ["DNS over TLS, TCP port 853", *told])
 

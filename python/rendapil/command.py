@@ -5,7 +5,7 @@ import sys
 
 from rendapil import sayings
 from rendapil.places import IS_CHECKOUT, TOP
-from rendapil.sayings import CANNOT, Stop, say, shown
+from rendapil.sayings import CANNOT, Stop, as_word, say
 
 USAGE = 2
 """The status where the words are no command."""
@@ -138,7 +138,7 @@ def refused(words: list[str]) -> int:
         say(f"{words[0]} doesn't take {len(words) - 1} words")
         return USAGE
     near = difflib.get_close_matches(words[0], [*USAGES, *TOOLS, "--help", "--version"], 1)
-    say(f"there is no command '{shown(words[0])}'" + (f": is '{near[0]}' meant?" if near else ""))
+    say(f"there is no command '{as_word(words[0])}'" + (f": is '{near[0]}' meant?" if near else ""))
     say("'rendapil --help' lists the commands")
     return USAGE
 
@@ -235,5 +235,5 @@ def main(words: list[str]) -> int:
         return 130
     except OSError as error:
         sys.stdout = open(os.devnull, "w")  # nothing more goes there
-        say(f"{shown(str(error.filename or 'standard output'))}: {error.strerror}")
+        say(f"{as_word(str(error.filename or 'standard output'))}: {error.strerror}")
         return CANNOT

@@ -26,12 +26,21 @@ DONE = re.compile(rb'(?:done( [a-z_]+=\d{1,19})+|\{"done":true(,"[a-z_]+":\d{1,1
 SIDES = {b"left": 0, b"right": 1}
 
 
-def shown(name: str) -> str:
-    """A file's name, or another text from outside, with all that isn't printable escaped."""
-    return "".join(
-        one if one.isprintable() else one.encode("utf-8", "backslashreplace").decode() if "\ud800" <= one <= "\udfff" else repr(one)[1:-1]
-        for one in name
-    )
+PLAIN = 300
+"""The most octets that are told as text."""
+
+ESCAPED = {octet: f"\\x{octet:02x}" for octet in range(256) if not 32 <= octet < 127}
+
+
+def shown(text: str) -> str:
+    """A file's name, or another text from outside, with all that isn't printable escaped: an octet that is no text as \\xff."""
+    return "".join(one if one.isprintable() else f"\\x{ord(one) & 0xFF:02x}" if "\udc80" <= one <= "\udcff" else repr(one)[1:-1] for one in text)
+
+
+def plain(octets: bytes) -> str:
+    """Octets from outside as text of one line: those that aren't printable ASCII as \\x1b."""
+    text = octets[:PLAIN].decode("latin-1").translate(ESCAPED)
+    return text if len(octets) <= PLAIN else f"{text}… and {len(octets) - PLAIN} bytes more"
 
 
 def escape_output() -> None:

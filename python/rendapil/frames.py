@@ -1,5 +1,5 @@
 """What a frame says, in words: for the page of a run, its capture with comments and its lines of JSON. All that stands in a capture may be
-hostile: `plain` makes text of it that has no control characters."""
+hostile: `plain` of files.py makes text of it that has no control characters."""
 import re
 import struct
 from dataclasses import dataclass
@@ -8,18 +8,12 @@ from functools import lru_cache
 from typing import NamedTuple
 
 from rendapil.bindings import DNS_PORT, FTP_PORT, LABELS, SECOND, TCP, UDP, Names
-from rendapil.files import Frame
+from rendapil.files import Frame, plain
 from rendapil.places import TOP
 
 PROTOCOLS = {1: "ICMP", TCP: "TCP", UDP: "UDP"}
 TYPES = {1: "A", 2: "NS", 5: "CNAME", 6: "SOA", 12: "PTR", 15: "MX", 16: "TXT", 28: "AAAA", 33: "SRV", 41: "OPT", 252: "AXFR", 255: "ANY"}
 FLAGS = "FSRPAUEC"
-TEXT = 300
-"""The most characters of a line that are shown."""
-
-ESCAPED = {octet: f"\\x{octet:02x}" for octet in range(256) if not 32 <= octet < 127}
-"""How octets are written that aren't printable ASCII."""
-
 SECRET, HIDDEN = re.compile(rb"(?i)^(PASS|ACCT) .*", re.DOTALL), "(hidden)"
 """A line of FTP that gives a password, and what is shown in place of it."""
 
@@ -38,12 +32,6 @@ class Event:
     sent: list[Frame]
     images: list[bytes]
     is_heartbeat: bool = False
-
-
-def plain(octets: bytes) -> str:
-    """Octets as text of one line: those that aren't printable ASCII are written as \\x1b."""
-    text = octets[:TEXT].decode("latin-1").translate(ESCAPED)
-    return text if len(octets) <= TEXT else f"{text}… and {len(octets) - TEXT} bytes more"
 
 
 @lru_cache(maxsize=64)

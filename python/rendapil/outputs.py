@@ -7,7 +7,7 @@ from collections.abc import Sequence
 from dataclasses import dataclass, field
 from typing import IO, TYPE_CHECKING, NoReturn
 
-from rendapil.sayings import Fault, Stop, say, shown
+from rendapil.sayings import Fault, Stop, as_word, say
 
 if TYPE_CHECKING:
     from rendapil.inputs import Feeder
@@ -82,7 +82,7 @@ class Words:
                     self.feeders[place] = feeder = Feeder(self.words[place])
                 except Fault as error:
                     slot = self.slots[place]
-                    raise Stop(NOT_READ, f"{slot}, {shown(self.words[place])}: {error}", line=f"read failed: {slot}") from None
+                    raise Stop(NOT_READ, f"{slot}, {as_word(self.words[place])}: {error}", line=f"read failed: {slot}") from None
                 self.words[place] = f"/dev/fd/{feeder.pipe.fileno()}"
                 self.inherited.append(feeder.pipe.fileno())
 
@@ -95,7 +95,7 @@ class Words:
         for place in range(self.outputs, len(self.words)):
             for other in range(1, place):
                 if any(is_one_file(self.words[place], name) for name in names_of(self.words[other])):
-                    self.refuse(place, f"{self.slots[place]} and {self.slots[other]} are one file, {shown(self.words[place])}")
+                    self.refuse(place, f"{self.slots[place]} and {self.slots[other]} are one file, {as_word(self.words[place])}")
 
     def lock_outputs(self) -> None:
         """Opens the outputs that are files, or aren't there, and holds a lock on each as long as the run lasts. A second run into one of them ends."""
@@ -115,7 +115,7 @@ class Words:
             try:
                 fcntl.flock(file, fcntl.LOCK_EX | fcntl.LOCK_NB)
             except BlockingIOError:
-                self.refuse(place, f"another run writes {self.slots[place]}, {shown(name)}")
+                self.refuse(place, f"another run writes {self.slots[place]}, {as_word(name)}")
             except OSError:
                 pass  # this file system has no locks
 
@@ -136,9 +136,9 @@ class Words:
             elif word == "-" and slot != "report":
                 say(f"{slot}: - can be one input alone, and one output alone. Write ./- for a file")
             elif word.startswith("-") and word != "-":
-                say(f"{slot}: write {shown('./' + word)} for a file")
+                say(f"{slot}: write {as_word('./' + word)} for a file")
             elif not is_utf8(word):
-                say(f"{slot}: the name {shown(word)} isn't UTF-8")
+                say(f"{slot}: the name {as_word(word)} isn't UTF-8")
 
 
 def names_of(word: str) -> list[str]:

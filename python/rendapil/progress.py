@@ -5,7 +5,7 @@ import sys
 import time
 
 from rendapil import sayings
-from rendapil.sayings import shown
+from rendapil.sayings import as_word
 
 LINE = "\n\033[Kleft {}, right {}, {:.0f} MB/s\033[A\r"
 
@@ -14,7 +14,7 @@ class Progress:
     """How many of something a tool has done: once a second, where somebody looks on."""
 
     def __init__(self, name: str, what: str) -> None:
-        self._text, self._next = f"rendapil {name}: {{:,}} {shown(what)}", time.monotonic() + 1
+        self._text, self._next = f"rendapil {name}: {{:,}} {as_word(what)}", time.monotonic() + 1
         self._is_shown = sys.stderr.isatty() and not sayings.QUIET
 
     def tell(self, number: int) -> None:

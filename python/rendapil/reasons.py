@@ -12,7 +12,7 @@ from collections import Counter
 from rendapil.kinds import by_head
 from rendapil.outputs import Words
 from rendapil.places import TOP
-from rendapil.sayings import say, shown
+from rendapil.sayings import as_word, say
 
 DONE = re.compile(rb'\bevents"?[=:](\d+).*?passed"?[=:](\d+).*?refused"?[=:](\d+)')
 REFUSED = re.compile(rb'"verdict":"([A-Z]\w*)"|^\d+ [a-z]+ \d+ ([A-Z]\w*) ')
@@ -58,7 +58,7 @@ def looks_like(path: str, slot: str) -> str:
             front = file.read(4096)
     except OSError:
         return ""
-    kind = by_head(front[:24], shlex.quote(shown(path)))
+    kind = by_head(front[:24], shlex.quote(as_word(path)))
     if not kind:
         return "" if slot == "settings" or b"\0" in front else "it is text. Are the words in their order?"
     if kind.command:
@@ -101,7 +101,7 @@ def tell_more(line: str, words: Words) -> None:
     if slot in words.slots:
         place = words.slots.index(slot)
         if text := why(line, words, place):
-            say(f"{slot}, {shown(words.words[place])}: {text}")
+            say(f"{slot}, {as_word(words.words[place])}: {text}")
 
 
 def counts_of(report: str) -> list[int]:

@@ -12,7 +12,7 @@ from rendapil.build import have_program
 from rendapil.outputs import Words
 from rendapil.progress import wait_and_tell
 from rendapil.reasons import is_pipe, slot_of, tell_by, tell_end, tell_more
-from rendapil.sayings import say, shown
+from rendapil.sayings import as_word, say
 
 SLOTS = {
     "run": (("settings", "left_in", "right_in", "left_out", "right_out", "report"), 4),
@@ -72,7 +72,7 @@ def run_program(program: Path, words: Words) -> int:
     if status == USAGE:
         words.tell_faults()
     elif slot_of(line) in damaged:
-        say(f"{slot_of(line)}, {shown(given[words.slots.index(slot_of(line))])}: {damaged[slot_of(line)]}")
+        say(f"{slot_of(line)}, {as_word(given[words.slots.index(slot_of(line))])}: {damaged[slot_of(line)]}")
     elif status in FAULTS:
         tell_more(line, words)
     elif not (sayings.QUIET and status <= 128):

@@ -12,7 +12,7 @@ QUIET = False
 """Whether what isn't an error is left out."""
 
 
-def shown(text: str) -> str:
+def as_word(text: str) -> str:
     """A name or a word. One with control characters, or that isn't text, is written as bash would take it."""
     if text.isprintable():
         return text
@@ -22,7 +22,7 @@ def shown(text: str) -> str:
 
 def quoted(text: str) -> str:
     """A word as a shell takes it."""
-    return shlex.quote(text) if text.isprintable() else shown(text)
+    return shlex.quote(text) if text.isprintable() else as_word(text)
 
 
 def called() -> str:

@@ -12,6 +12,7 @@ from ipaddress import IPv4Address, IPv4Network, collapse_addresses
 
 from rendapil.bindings import pool_of
 from rendapil.document import Document, Side, faultless
+from rendapil.files import shown
 
 LIMIT = 1_048_576
 """The most bytes of a settings file."""
@@ -156,8 +157,8 @@ def fault_of(name: str, table: dict[str, object], key: str, form: Form) -> Itera
     is_kind = isinstance(value, form.kind) and not isinstance(value, bool) and all(isinstance(part, wanted) for part in parts)
     if not is_kind or not form.is_right(value):
         wrong = [part for part in parts if form is BLOCKS and not (isinstance(part, str) and is_block(part))]
-        shown = repr(wrong[0] if wrong else value)
-        yield f"{form.fault if is_kind else 'Kind'} {name}: {shown if len(shown) < LONGEST else 'the value'} isn't {form.words}"
+        told = repr(wrong[0] if wrong else value)
+        yield f"{form.fault if is_kind else 'Kind'} {name}: {told if len(told) < LONGEST else 'the value'} isn't {form.words}"
 
 
 def faults_of_keys(document: dict[str, object]) -> Iterator[str]:
@@ -288,7 +289,6 @@ def document_of(path: str) -> tuple[Document, str]:
         octets = file.read(LIMIT + 1)
     document, faults = read(octets)
     if faults or list(faults_of_keys(document)):
-        from rendapil.files import shown
         from rendapil.sayings import Fault
 
         raise Fault(f"{shown(path)} has faults: 'rendapil check' tells them")
@@ -302,21 +302,13 @@ def faults_of_captures(paths: list[str], realms: Realms) -> Iterator[str]:
     return told(paths, realms)
 
 
-def plain(text: str) -> str:
-    """A text without control characters, for terminals."""
-    return "".join(
-        one if one.isprintable() else f"\\x{ord(one) & 0xFF:02x}" if ord(one) < 256 or "\udc80" <= one <= "\udcff" else f"\\u{ord(one):04x}"
-        for one in text
-    )
-
-
 def lines_of(settings: str, captures: list[str], brief: bool) -> list[str]:
     """What is to be minded in a settings file, and in captures that are run with it. Tells what it says."""
     try:
         with open(settings, "rb") if settings != "-" else sys.stdin.buffer as file:
             document, faults = read(file.read(LIMIT + 1))
     except OSError as error:
-        sys.exit(f"rendapil check: {plain(settings)}: {error.strerror}")
+        sys.exit(f"rendapil check: {shown(settings)}: {error.strerror}")
     lines = [] if faults else unknown_keys(document)
     faults = faults or list(faults_of_keys(document))
     realms = None if faults else Realms(faultless(document))
@@ -352,7 +344,7 @@ def main() -> int:
     count = 0
     for settings in [words.settings, *(words.more if not captures else [])]:
         for line in lines_of(settings, captures, words.brief):
-            print(plain(line))
+            print(shown(line))
             count += 1
     return 1 if count else 0
 

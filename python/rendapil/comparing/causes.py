@@ -12,7 +12,8 @@ from rendapil.comparing.bindings import identity
 from rendapil.comparing.captures import ports
 from rendapil.comparing.match import Came, Due, Match, Sent, is_tracked, mended
 from rendapil.packet import ICMP
-from rendapil.frames import FLAGS, PROTOCOLS, dns_lines, plain, ways
+from rendapil.files import plain
+from rendapil.frames import FLAGS, PROTOCOLS, dns_lines, ways
 
 DIFFERENT, BY_RIGHT, UNSURE = "different", "by right", "not compared"
 """What a cause is: a difference that matters, one that a device may have, or what these captures don't allow to compare."""

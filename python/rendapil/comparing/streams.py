@@ -12,7 +12,8 @@ from typing import NamedTuple
 
 from rendapil.bindings import ACK, DNS_PORT, FIN, FTP_PORT, RST, SYN, signed
 from rendapil.comparing.causes import BY_RIGHT, DIFFERENT, UNSURE, Groups, Ladder, Rung, payload
-from rendapil.frames import dns_lines, ftp_lines, plain
+from rendapil.files import plain
+from rendapil.frames import dns_lines, ftp_lines
 from rendapil.streams import TRACKED, messages_in, whole_of_parts
 
 ROOM, SHIFTS, RUNGS = 1 << 28, 64, 60

@@ -204,12 +204,12 @@ def worth_keeping(story: Story) -> list[Binding]:
     return kept
 
 
-def quoted(value: object) -> str:
+def toml_of(value: object) -> str:
     """A value as TOML."""
     if isinstance(value, dict):
-        return "{ " + ", ".join(f"{key} = {quoted(part)}" for key, part in value.items()) + " }"
+        return "{ " + ", ".join(f"{key} = {toml_of(part)}" for key, part in value.items()) + " }"
     if isinstance(value, list):
-        return "[" + "".join(f"\n    {quoted(part)}," for part in value) + "\n]" if value else "[]"
+        return "[" + "".join(f"\n    {toml_of(part)}," for part in value) + "\n]" if value else "[]"
     return json.dumps(value)
 
 
@@ -223,7 +223,7 @@ def settings_with(text: str, rows: list[Binding]) -> str:
         if tomllib.loads(longer) == wanted:
             return longer
     known = ("report", "fragments", "same", "left", "right", "static", "oid")
-    return "# Written by rendapil explain --settings.\n" + "".join(f"{key} = {quoted(wanted[key])}\n" for key in known if key in wanted)
+    return "# Written by rendapil explain --settings.\n" + "".join(f"{key} = {toml_of(wanted[key])}\n" for key in known if key in wanted)
 
 
 # Files.
