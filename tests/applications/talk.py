@@ -1,6 +1,8 @@
-"""Clients of sessions for which no program of Debian does it by itself: `talk.py irc|irc-chat|tracker|getaddr|smtpd|rtspd|socks`."""
+"""Clients of sessions for which no program of Debian does it by itself: `talk.py NAME`."""
+import os
 import socket
 import struct
+import subprocess
 import sys
 import time
 
@@ -98,6 +100,80 @@ def socks() -> None:
         one.close()
 
 
+def xmpp() -> None:
+    """Logs in, and asks a proxy for transfers where it is (XEP-0065)."""
+    user = socket.create_connection(("10.2.0.9", 5222), 5)
+    user.settimeout(2)
+    start = "<stream:stream to='a.example' xmlns='jabber:client' xmlns:stream='http://etherx.jabber.org/streams' version='1.0'>"
+    for text in (
+        start,
+        "<auth xmlns='urn:ietf:params:xml:ns:xmpp-sasl' mechanism='PLAIN'>AGFubgBzZWNyZXQ=</auth>",
+        start,
+        "<iq type='set' id='1'><bind xmlns='urn:ietf:params:xml:ns:xmpp-bind'/></iq>",
+        "<iq type='get' id='2' to='p.a.example'><query xmlns='http://jabber.org/protocol/bytestreams'/></iq>",
+        "</stream:stream>",
+    ):
+        user.sendall(text.encode())
+        time.sleep(0.7)
+        print(user.recv(9999))
+
+
+def wsd() -> None:
+    """Asks a host by unicast what device it is (WS-Discovery)."""
+    envelope = (
+        '<?xml version="1.0" encoding="utf-8"?><soap:Envelope xmlns:soap="http://www.w3.org/2003/05/soap-envelope"'
+        ' xmlns:wsa="http://schemas.xmlsoap.org/ws/2004/08/addressing" xmlns:wsd="http://schemas.xmlsoap.org/ws/2005/04/discovery"'
+        ' xmlns:wsdp="http://schemas.xmlsoap.org/ws/2006/02/devprof"><soap:Header><wsa:To>urn:schemas-xmlsoap-org:ws:2005:04:discovery</wsa:To>'
+        "<wsa:Action>http://schemas.xmlsoap.org/ws/2005/04/discovery/Probe</wsa:Action>"
+        "<wsa:MessageID>urn:uuid:0a6dc791-2be6-4991-9af1-454778a1917a</wsa:MessageID></soap:Header>"
+        "<soap:Body><wsd:Probe><wsd:Types>wsdp:Device</wsd:Types></wsd:Probe></soap:Body></soap:Envelope>"
+    )
+    one = socket.socket(socket.AF_INET, socket.SOCK_DGRAM)
+    one.settimeout(4)
+    one.sendto(envelope.encode(), ("10.2.0.9", 3702))
+    print(one.recv(9999))
+
+
+def inetd(port: str, *program: str) -> None:
+    """Starts a program on a UDP socket, or on each TCP connection, as inetd does."""
+    if port == "518":
+        one = socket.socket(socket.AF_INET, socket.SOCK_DGRAM)
+        one.bind(("10.2.0.9", 518))
+        os.dup2(one.fileno(), 0)
+        os.execv(program[0], program)
+    listener = socket.create_server(("10.2.0.9", int(port)))
+    while True:
+        user, _ = listener.accept()
+        subprocess.Popen(program, stdin=user, stdout=user)
+        user.close()
+
+
+def modbus() -> None:
+    """Ten registers, of which one has an address."""
+    from pymodbus.datastore import ModbusSequentialDataBlock, ModbusServerContext, ModbusSlaveContext
+    from pymodbus.server import StartTcpServer
+
+    block = ModbusSequentialDataBlock(0, [0, 10, 513, 9, 4, 5, 6, 7, 8, 9, 10, 11])
+    StartTcpServer(context=ModbusServerContext(slaves=ModbusSlaveContext(hr=block), single=True), address=("10.2.0.9", 502))
+
+
+def zabbix() -> None:
+    """Asks an agent for some values."""
+    for key in (b"agent.ping", b"agent.hostname", b"system.uname", b"net.if.list"):
+        one = socket.create_connection(("10.2.0.9", 10050), 3)
+        one.sendall(b"ZBXD\x01" + struct.pack("<Q", len(key)) + key)
+        print(one.recv(999))
+        one.close()
+
+
+def flows(path: str) -> None:
+    """A capture of some datagrams of hosts of the client's realm, for a probe to count."""
+    from scapy.all import IP, UDP, Ether, wrpcap
+
+    ends = [("10.1.0.5", "10.1.0.6"), ("10.1.0.6", "10.1.0.7"), ("10.1.0.7", "10.1.0.5")]
+    wrpcap(path, [Ether(src="02:00:00:00:00:01", dst="02:00:00:00:00:02") / IP(src=one, dst=other) / UDP(sport=4000 + place, dport=9) / b"x" for place in range(3) for one, other in ends])
+
+
 if __name__ == "__main__":
     {
         "irc": lambda: irc("PRIVMSG bob :\x01DCC SEND file 167837701 4000 9\x01\r\n"),
@@ -107,4 +183,10 @@ if __name__ == "__main__":
         "smtpd": smtpd,
         "rtspd": rtspd,
         "socks": socks,
+        "xmpp": xmpp,
+        "wsd": wsd,
+        "inetd": lambda: inetd(*sys.argv[2:]),
+        "modbus": modbus,
+        "zabbix": zabbix,
+        "flows": lambda: flows(sys.argv[2]),
     }[sys.argv[1]]()
