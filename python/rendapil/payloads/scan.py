@@ -11,7 +11,7 @@ from typing import NamedTuple
 
 from rendapil.bindings import CHANGED, FTP_PORT, SIDES, TCP, UDP
 from rendapil.frames import Event
-from rendapil.packet import is_private
+from rendapil.packet import ICMP, is_private
 from rendapil.payloads.addresses import (
     COOKIE,
     FIELD,
@@ -65,13 +65,17 @@ from rendapil.payloads.kept import (
     chance_of,
     meaning_in,
 )
-from rendapil.payloads.structures import BOUND, DECODERS, MAPPED, NAMED_TO_PROXY, SEEN, TO_CONNECT, mapped
+from rendapil.payloads.behind import DECODERS, PROXY_2, proxied
+from rendapil.payloads.structures import BOUND, MAPPED, NAMED_TO_PROXY, SEEN, TO_CONNECT, mapped
 
 __all__ = ["HOST", "MAYBE", "Meant", "Scan", "example_of", "lines_of", "meaning_in", "summary_of", "told_rows"]
 
 
 SEALED = {one.name for one in BY_NAME.values() if one.weight == HIDDEN} | {"TLS", "QUIC"}
 """Applications that can't be read behind their first messages."""
+
+CARRIED, NOT_CARRIED = (ICMP, TCP, UDP), ("Protocol", "TtlSpent")
+"""Protocols that the gateway carries, and verdicts of frames of one that the gateway refuses: neighbours often send them with a TTL of 1."""
 
 SEALED_AFTER = 8
 """How many payloads of such a flow are looked into."""
@@ -113,7 +117,7 @@ class Scan:
         self.latest = []
         if event.verdict == "pass" and event.datagram:
             self.take(event.number, event.side, event.datagram, event.images)
-        elif event.verdict == "Protocol" and event.datagram:
+        elif event.verdict in NOT_CARRIED and event.datagram and event.datagram[9] not in CARRIED:
             self.refused[event.datagram[9]] += 1
 
     def take(self, number: int, side: int, came: bytes, sent: list[bytes]) -> None:
@@ -221,6 +225,8 @@ class Scan:
             finds += decoder(payload)
         elif name in WEB and b":peers" in payload:
             finds += DECODERS["BitTorrent"](payload)
+        if payload.startswith(PROXY_2):
+            finds += proxied(payload)
         if MAPPED in payload and not any(one.form == FIELD for one in finds):
             finds += mapped(payload)
         if prefixes := [prefix for prefix in flow.prefixes if prefix in payload]:
@@ -449,17 +455,24 @@ MEANS = {
 
 REFUSED = {
     4: ("IP in IP", "another tunnel, over UDP or TCP"),
+    33: ("DCCP", "DCCP over UDP (RFC 6773)"),
     41: ("IPv6 in IPv4", "another tunnel, over UDP or TCP"),
+    46: ("RSVP", "no reservations over the gateway"),
     47: ("GRE", "end the tunnel before the gateway, or another one over UDP or TCP"),
     50: ("ESP of IPsec", "NAT traversal (UDP 4500), or end the tunnel before the gateway"),
     51: ("AH of IPsec", "ESP with NAT traversal (UDP 4500)"),
     88: ("EIGRP", "a static route to the pool in each realm"),
     89: ("OSPF", "a static route to the pool in each realm"),
     94: ("IP in IP", "another tunnel, over UDP or TCP"),
+    97: ("EtherIP", "another tunnel, over UDP or TCP"),
     103: ("PIM", "no multicast over the gateway"),
     112: ("VRRP", "routers of a group in one realm"),
+    108: ("IPComp", "no compression of packets"),
     115: ("L2TP without UDP", "L2TP over UDP"),
     132: ("SCTP", "SCTP over UDP (RFC 6951), or TCP"),
+    136: ("UDP-Lite", "UDP"),
+    137: ("MPLS in IP", "MPLS over UDP (RFC 7510)"),
+    139: ("HIP", "HIP over UDP (RFC 9028)"),
 }
 """Protocols that the gateway refuses, by number: their name, and what helps."""
 
