@@ -163,6 +163,9 @@ class Evidence(unittest.TestCase):
         """Nothing is told of random octets, of what fills up, and of numbers that count through a block."""
         source = random.Random(5)
         self.assertEqual(told_rows(scan_of(*((host, 999, 998, source.randbytes(1200)) for _ in range(700) for host in HOSTS))), [])
+        spread = ((host, 50_000, 20_000 + number, source.randbytes(1200)) for number in range(700) for host in HOSTS)
+        once = [("10.0.0.5", 50_000, 30_000, b"\1\2\3\4" + OWN)]
+        self.assertEqual([[row.sure for row in told_rows(scan_of(*frames))] for frames in (once, [*once, *spread])], [["maybe"], []])
         self.assertEqual(told_rows(scan_of(*((host, 999, 998, bytes(900)) for host in HOSTS))), [])
         counter = [("10.0.0.7", 999, 998, b"ab" + struct.pack(">I", 0x0A000000 + number)) for number in range(1, 250)]
         self.assertEqual(told_rows(scan_of(*counter)), [])
@@ -361,7 +364,7 @@ class Behind(unittest.TestCase):
             ("KNXnet/IP", b"\6\x10\2\5\0\x1a\x08\1" + ten + b"\x0e\x57\x08\1" + six + b"\x0e\x57\4\4\2\0", ["10.0.0.5", "10.0.0.6"]),
             ("BACnet", b"\x81\4\0\x0e" + ten + b"\xba\xc0\1\0\x10\x08", ["10.0.0.5"]),
             ("BACnet", b"\x81\3\0\x18" + ten + b"\xba\xc0\xff\xff\xff\xff" + six + b"\xba\xc0\xff\xff\xff\xff", ["10.0.0.5", "10.0.0.6"]),
-            ("Mobile IP", b"\1\0\0\x3c" + ten + six + b"\x0a\0\0\7" + bytes(8), ["10.0.0.5", "10.0.0.6", "10.0.0.7"]),
+            ("Mobile IP", b"\1\0\0\x3c" + ten + six + b"\x0a\0\0\7" + bytes(8) + b"\x20\x14", ["10.0.0.5", "10.0.0.6", "10.0.0.7"]),
             ("flow records", b"\0\5\0\1" + bytes(20) + ten + six + bytes(40), ["10.0.0.5", "10.0.0.6"]),
             ("flow records", b"\0\x09\0\2" + bytes(16) + template + b"\1\0\0\x0c" + ten + six, ["10.0.0.5", "10.0.0.6"]),
             ("flow records", b"\0\x0a\0\x2c" + bytes(12) + b"\0\2" + template[2:] + b"\1\0\0\x0c" + ten + six, ["10.0.0.5", "10.0.0.6"]),
@@ -369,7 +372,7 @@ class Behind(unittest.TestCase):
             ("tunnels of packets", b"\0\0\x0b\xd7\xf5\xff\xff\xfa\x60" + bytes(40), ["10.0.0.5"]),
             ("NTP", b"\x97\0\3\1\0\1\0\x48" + ten + six + bytes(64), ["10.0.0.5", "10.0.0.6"]),
             ("NTP", b"\x97\0\3\x2a\0\1\0\x48" + bytes(16) + ten + six + bytes(48), ["10.0.0.5", "10.0.0.6"]),
-            ("Babel, OLSR", b"\0\x2c\0\1\1\6\0\x18" + ten + bytes(8) + b"\6\0\0\x08" + six + b"\4\6\0\x14" + ten + bytes(4) + b"\x0a\1\0\0\xff\xff\0\0", ["10.0.0.5", "10.0.0.6", "10.0.0.5", "10.1.0.0"]),
+            ("Babel, OLSR", b"\0\x30\0\1\1\6\0\x18" + ten + bytes(8) + b"\6\0\0\x08" + six + b"\4\6\0\x14" + ten + bytes(4) + b"\x0a\1\0\0\xff\xff\0\0", ["10.0.0.5", "10.0.0.6", "10.0.0.5", "10.1.0.0"]),
         ):
             self.assertEqual((name, named(DECODERS[name](payload))), (name, expected))
             for size in range(len(payload)):
@@ -394,6 +397,11 @@ class Behind(unittest.TestCase):
         call = b"\x80\0\0\x28\0\0\0\1\0\0\0\0\0\0\0\2"
         for port, program, name in ((24007, 14398633, "GlusterFS"), (9999, 14398633, "GlusterFS"), (24007, 300000, "GlusterFS"), (9999, 300000, "ONC RPC")):
             self.assertEqual(application_of(TCP, 4000, port, call + struct.pack(">I", program) + bytes(24))[0].name, name)
+        for port, message, name in (
+            (10000, b"IceP\1\0\1\0", "ZeroC Ice"), (10000, b"GET / HTTP/1.1\r\n", "HTTP"), (10000, b"\0\0", "NDMP"), (2000, b"OPTIONS sip:a SIP/2.0", "SIP"),
+            (2379, b"GET /v2/members HTTP/1.1\r\n", "etcd"), (21, b"GET / HTTP/1.1\r\n", "FTP"),
+        ):
+            self.assertEqual((port, application_of(TCP, 4000, port, message)[0].name), (port, name))
         self.assertEqual(application_of(TCP, 4000, 853, b"\x16\3\1 dns.google")[0].name, "DNS over TLS")
         self.assertEqual(application_of(TCP, 4000, 443, b"\x16\3\1 dns.google")[0].name, "DNS over HTTPS")
         self.assertEqual([named(texts_in(text)) for text in (b"GET /10.0.0.5:80 HTTP/1.1", b"GET /10.0.0.5 HTTP/1.1")], [["10.0.0.5"], []])

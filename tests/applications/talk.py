@@ -174,6 +174,77 @@ def flows(path: str) -> None:
     wrpcap(path, [Ether(src="02:00:00:00:00:01", dst="02:00:00:00:00:02") / IP(src=one, dst=other) / UDP(sport=4000 + place, dport=9) / b"x" for place in range(3) for one, other in ends])
 
 
+def rtpengine() -> None:
+    """Offers a call to a relay for media, as a SIP proxy does."""
+    sdp = b"v=0\r\no=- 1 1 IN IP4 10.1.0.5\r\ns=-\r\nc=IN IP4 10.1.0.5\r\nt=0 0\r\nm=audio 4000 RTP/AVP 0\r\n"
+    words = {b"call-id": b"7", b"command": b"offer", b"from-tag": b"a", b"sdp": sdp}
+    one = socket.socket(socket.AF_INET, socket.SOCK_DGRAM)
+    one.settimeout(3)
+    one.bind(("10.1.0.5", 0))
+    one.sendto(b"1_7 d" + b"".join(b"%d:%s%d:%s" % (len(key), key, len(words[key]), words[key]) for key in sorted(words)) + b"e", ("10.2.0.9", 2223))
+    print(one.recv(9999))
+
+
+def ros() -> None:
+    """Registers a node with a master, and asks where it is."""
+    from xmlrpc.client import ServerProxy
+
+    master = ServerProxy("http://10.2.0.9:11311/")
+    print(master.registerPublisher("/talker", "/chatter", "std_msgs/String", "http://10.1.0.5:4000/"))
+    print(master.registerSubscriber("/listener", "/chatter", "std_msgs/String", "http://10.1.0.6:4000/"))
+    print(master.lookupNode("/listener", "/talker"))
+
+
+SLICE = "module A { interface B { Object* other(); }; };"
+
+
+def ice(is_server: bool = False) -> None:
+    """A server of ZeroC Ice that tells where another one is, and its client."""
+    import Ice
+
+    with open("a.ice", "w", encoding="ascii") as file:
+        file.write(SLICE)
+    Ice.loadSlice("a.ice")
+    import A
+
+    class One(A.B):  # type: ignore[name-defined, misc]
+        """Knows the other server."""
+
+        def other(self, current):  # type: ignore[no-untyped-def]
+            """Where the other server is."""
+            return current.adapter.getCommunicator().stringToProxy("x:tcp -h 10.2.0.8 -p 10001")
+
+    with Ice.initialize([]) as world:
+        if is_server:
+            adapter = world.createObjectAdapterWithEndpoints("a", "tcp -h 10.2.0.9 -p 10000")
+            adapter.add(One(), Ice.stringToIdentity("b"))
+            adapter.activate()
+            world.waitForShutdown()
+        print(A.BPrx.checkedCast(world.stringToProxy("b:tcp -h 10.2.0.9 -p 10000")).other())
+
+
+def gtp() -> None:
+    """Asks a GGSN for a tunnel (3GPP TS 29.060)."""
+    options = b"\x80\x80\x21\x10\x01\x00\x00\x10\x81\x06\x00\x00\x00\x00\x83\x06\x00\x00\x00\x00"
+    own = socket.inet_aton("10.1.0.5")
+    lists = [
+        (0x80, b"\xf1\x21"),
+        (0x83, b"\x08internet"),
+        (0x84, options),
+        (0x85, own),
+        (0x85, own),
+        (0x86, b"\x91\x94\x71\x00\x00\xf0"),
+        (0x87, b"\x01\x0b\x92\x1f"),
+    ]
+    body = b"\x02\x00\x01\x10\x10\x32\x54\x76\x98\xf0\x0e\x01\x0f\xfc\x10\x00\x00\x00\x01\x11\x00\x00\x00\x02\x14\x05"
+    body += b"".join(struct.pack(">BH", kind, len(value)) + value for kind, value in lists)
+    one = socket.socket(socket.AF_INET, socket.SOCK_DGRAM)
+    one.bind(("10.1.0.5", 2123))
+    one.settimeout(3)
+    one.sendto(struct.pack(">BBHIHBB", 0x32, 16, len(body) + 4, 0, 1, 0, 0) + body, ("10.2.0.9", 2123))
+    print(one.recv(999))
+
+
 if __name__ == "__main__":
     {
         "irc": lambda: irc("PRIVMSG bob :\x01DCC SEND file 167837701 4000 9\x01\r\n"),
@@ -188,5 +259,10 @@ if __name__ == "__main__":
         "inetd": lambda: inetd(*sys.argv[2:]),
         "modbus": modbus,
         "zabbix": zabbix,
+        "rtpengine": rtpengine,
+        "ros": ros,
+        "ice": ice,
+        "iced": lambda: ice(True),
+        "gtp": gtp,
         "flows": lambda: flows(sys.argv[2]),
     }[sys.argv[1]]()

@@ -270,6 +270,20 @@ def by_port(protocol: int, port: int, far_port: int) -> tuple[Application | None
     return None, min(port, far_port)
 
 
+CLEAR = ("SIP", "RTSP", "SSDP, UPnP", "HTTP", "CORBA", "SMB", "RMI, JMX", "NATS", "ZeroC Ice", "DDS", "OPC UA", "ActiveMQ")
+"""Applications whose messages can't be others: what is said tells more than the port."""
+
+OWN_HTTP = ("etcd", "Couchbase", "ROS", "FTP", "DNS", "SNMP", "TLS")
+"""Applications that speak HTTP themselves, and those whose ports the gateway looks into, whatever is said there."""
+
+
+def clear_in(protocol: int, known: Application, payload: bytes) -> str:
+    """The name of another application than that of the port, whose message can't be another one's."""
+    if known.name in OWN_HTTP:
+        return ""
+    return next((name for name, signature in SIGNATURES if name in CLEAR and (protocol == TCP or name != "HTTP") and signature.match(payload)), "")
+
+
 def application_of(protocol: int, port: int, far_port: int, payload: bytes) -> tuple[Application, int]:
     """The application of a flow by its ports and by a payload of it, and the port of its server."""
     known, server = by_port(protocol, port, far_port)
@@ -287,4 +301,6 @@ def application_of(protocol: int, port: int, far_port: int, payload: bytes) -> t
     if not known or known.name in SHARED or (protocol, server) in VAGUE:
         if name := said_in(protocol, payload):
             return BY_NAME[name], server
+    elif name := clear_in(protocol, known, payload):
+        return BY_NAME[name], server
     return (known if known and (protocol, server) not in VAGUE else UNKNOWN), server

@@ -54,29 +54,37 @@ def told_behind(patterns: list[Pattern], payload: bytes) -> Iterator[Find]:
 
 def knx(payload: bytes) -> Iterator[Find]:
     """Endpoints of control and of data in KNXnet/IP."""
-    if payload[:2] == b"\x06\x10":
+    if payload[:2] == b"\x06\x10" and int.from_bytes(payload[4:6]) <= len(payload):
         yield from all_behind(payload, re.compile(rb"\x08[\x01\x02]"), ANSWERS)
 
 
 def bacnet(payload: bytes) -> Iterator[Find]:
     """The sender of a message that was forwarded, and the tables of a BBMD (annex J)."""
-    if payload[:2] == b"\x81\x04":
+    if payload[:1] != b"\x81" or int.from_bytes(payload[2:4]) != len(payload):
+        return
+    if payload[1] == 4:
         yield from at_place(payload, 4, FORWARDED)
-    elif payload[:1] == b"\x81" and payload[1:2] in (b"\x01", b"\x03", b"\x07"):
+    elif payload[1] in (1, 3, 7):
         for at in range(4, min(len(payload), 1500) - 9, 10):
             yield from at_place(payload, at, FORWARDED)
 
 
+EXTENSIONS = (b"\x20", b"\x21", b"\x22", b"\x83", b"\x84", b"\x88")
+"""What may follow the fixed part of a registration."""
+
+
 def mobile_ip(payload: bytes) -> Iterator[Find]:
     """The home address, the home agent and the care-of address of a registration (RFC 5944)."""
-    for at in {b"\x01": (4, 8, 12), b"\x03": (4, 8)}.get(payload[:1], ()):
-        yield from at_place(payload, at, CARE_OF)
+    for kind, places, size in ((1, (4, 8, 12), 24), (3, (4, 8), 20)):
+        if payload[:1] == bytes([kind]) and payload[size : size + 1] in EXTENSIONS:
+            for at in places:
+                yield from at_place(payload, at, CARE_OF)
 
 
 def flow_records(payload: bytes) -> Iterator[Find]:
     """Records of NetFlow 5, those of 9 and of IPFIX whose template stands in the same message, and the agent of sFlow 5."""
     version = int.from_bytes(payload[:2])
-    if version == 5:
+    if version == 5 and len(payload) == 24 + 48 * int.from_bytes(payload[2:4]):
         for at in range(24, min(len(payload), 1500) - 47, 48):
             for place in (at, at + 4, at + 8):
                 yield from at_place(payload, place, RECORDED)
@@ -142,10 +150,12 @@ PLACES_OF_NTP = {0: (0,), 1: (0, 4), 2: (0, 4), 3: (0, 4), 20: (16,), 42: (16, 2
 
 def ntp(payload: bytes) -> Iterator[Find]:
     """Lists of peers and of clients in the private mode of ntpd."""
-    if len(payload) < 8 or payload[0] & 0x87 != 0x87:
+    if len(payload) < 8 or payload[0] & 0x87 != 0x87 or payload[2] not in (0, 2, 3):
         return
-    count, size = int.from_bytes(payload[4:6]) & 0xFFF, int.from_bytes(payload[6:8]) & 0xFFF
-    for at in range(8, min(8 + count * size, len(payload)) if size else 0, size or 1):
+    count, size = int.from_bytes(payload[4:6]), int.from_bytes(payload[6:8])
+    if not size or 8 + count * size > len(payload):
+        return
+    for at in range(8, 8 + count * size, size):
         for place in PLACES_OF_NTP.get(payload[3], ()):
             yield from at_place(payload, at + place, LISTED)
 
@@ -192,7 +202,7 @@ def proxied(payload: bytes) -> Iterator[Find]:
 
 def olsr(payload: bytes) -> Iterator[Find]:
     """The originators of messages, their neighbours, interfaces and networks (RFC 3626)."""
-    at = 4
+    at = 4 if int.from_bytes(payload[:2]) == len(payload) else len(payload)
     while at + 12 <= len(payload) and (size := int.from_bytes(payload[at + 2 : at + 4])) >= 12:
         end, kind = min(at + size, len(payload)), payload[at] & 127
         yield from at_place(payload, at + 4, ROUTER)

@@ -49,7 +49,6 @@ from rendapil.payloads.kept import (
     PLAIN,
     PREFIXES,
     PRIVATE,
-    RARE,
     ROLES,
     SITES,
     SURE,
@@ -62,7 +61,8 @@ from rendapil.payloads.kept import (
     Meant,
     Row,
     Site,
-    chance_of,
+    Trials,
+    is_rare,
     meaning_in,
 )
 from rendapil.payloads.behind import DECODERS, PROXY_2, proxied
@@ -107,6 +107,7 @@ class Scan:
         self.apps: dict[tuple[str, int, int], App] = {}
         self.refused: Counter[int] = Counter()
         self.latest: list[Left] = []
+        self._unnamed = Trials()
         self._flows: dict[bytes, Flow] = {}
         self._opened: dict[bytes, None] = {}
         self._blocks: tuple[dict[bytes, set[bytes]], ...] = ({}, {})
@@ -153,6 +154,8 @@ class Scan:
         """Looks into a payload, and notes what is found."""
         app = flow.app
         app.trials += len(payload) * flow.weight
+        if not app.of.name:
+            app.together.count += len(payload) * flow.weight
         if payload[:4] in METHODS or app.of.name == "SOCKS" and not flow.is_served:
             flow.asked = payload[:LONG]
         finds = self._finds(flow, payload)
@@ -203,7 +206,7 @@ class Scan:
         if key not in self.apps and len(self.apps) >= APPS and not is_named:
             key = (of.name, protocol, 0)
         if key not in self.apps:
-            self.apps[key] = App(of, protocol, port if key[2] or is_named else 0)
+            self.apps[key] = App(of, protocol, port if key[2] or is_named else 0, Trials() if is_named else self._unnamed)
         return self.apps[key]
 
     def _aim(self, flow: Flow, key: bytes, side: int, sent: list[bytes]) -> None:
@@ -411,14 +414,14 @@ def degree_of(app: App, site: Site) -> str:
     if site.form in PLAIN:
         return SURE
     if site.form == LITTLE and len(site.values) < 2:
-        return MAYBE if site.frames >= 3 and chance_of(app) < RARE else ""
+        return MAYBE if site.frames >= 3 and is_rare(app) else ""
     if app.strays[site.at] >= site.frames:
         return ""
     if len(site.values) > 1 and (site.role in (ITSELF, PEER, PEER_OWN) or site.frames >= 4):
         return SURE
     if site.frames >= 3:
         return LIKELY
-    if chance_of(app) < RARE:
+    if is_rare(app):
         return LIKELY if app.of.name else MAYBE
     return ""
 
