@@ -353,7 +353,11 @@ class Behind(unittest.TestCase):
             ("GTP, PFCP", b"\x30\x10\0\x1f" + bytes(8) + b"\x85\0\4" + ten + b"\x80\0\6\xf1\x21" + six, ["10.0.0.5", "10.0.0.6"]),
             ("GTP, PFCP", b"\x48\x20\0\x20" + bytes(8) + b"\x57\0\x09\0\x8a\0\0\0\7" + ten, ["10.0.0.5"]),
             ("GTP, PFCP", b"\x20\5\0\x10\0\0\1\0\0\x3c\0\5\0" + ten, ["10.0.0.5"]),
-            ("MSDP, LDP", b"\0\1\0\x22" + ten + b"\0\0\3\0\0\x18\0\0\0\1\1\1\0\6\0\1" + six + b"\1\0\0\6\2\0\1\x10\x0a\1", ["10.0.0.5", "10.0.0.6", "10.1.0.0"]),
+            (
+                "MSDP, LDP",
+                b"\0\1\0\x22" + ten + b"\0\0\3\0\0\x18\0\0\0\1\1\1\0\6\0\1" + six + b"\1\0\0\6\2\0\1\x10\x0a\1",
+                ["10.0.0.5", "10.0.0.6", "10.1.0.0"],
+            ),
             ("MSDP, LDP", b"\0\1\0\x16" + ten + b"\0\0\1\0\0\x0c\0\0\0\1\4\1\0\4" + six, ["10.0.0.5", "10.0.0.6"]),
             ("Diameter", b"\1\0\0\x24" + bytes(16) + b"\0\0\1\1\x40\0\0\x0e\0\1" + ten + b"\0\0", ["10.0.0.5"]),
             ("DDS", b"RTPS\2\1" + bytes(14) + b"\x31\0\x18\0\1\0\0\0\xf2\x1c\0\0" + bytes(12) + ten, ["10.0.0.5"]),
@@ -372,11 +376,17 @@ class Behind(unittest.TestCase):
             ("tunnels of packets", b"\0\0\x0b\xd7\xf5\xff\xff\xfa\x60" + bytes(40), ["10.0.0.5"]),
             ("NTP", b"\x97\0\3\1\0\1\0\x48" + ten + six + bytes(64), ["10.0.0.5", "10.0.0.6"]),
             ("NTP", b"\x97\0\3\x2a\0\1\0\x48" + bytes(16) + ten + six + bytes(48), ["10.0.0.5", "10.0.0.6"]),
-            ("Babel, OLSR", b"\0\x30\0\1\1\6\0\x18" + ten + bytes(8) + b"\6\0\0\x08" + six + b"\4\6\0\x14" + ten + bytes(4) + b"\x0a\1\0\0\xff\xff\0\0", ["10.0.0.5", "10.0.0.6", "10.0.0.5", "10.1.0.0"]),
+            (
+                "Babel, OLSR",
+                b"\0\x30\0\1\1\6\0\x18" + ten + bytes(8) + b"\6\0\0\x08" + six + b"\4\6\0\x14" + ten + bytes(4) + b"\x0a\1\0\0\xff\xff\0\0",
+                ["10.0.0.5", "10.0.0.6", "10.0.0.5", "10.1.0.0"],
+            ),
         ):
             self.assertEqual((name, named(DECODERS[name](payload))), (name, expected))
             for size in range(len(payload)):
-                self.assertEqual([one for one in named(DECODERS[name](payload[:size])) if one not in expected and not one.endswith(".0.0")], [], (name, size))
+                self.assertEqual(
+                    [one for one in named(DECODERS[name](payload[:size])) if one not in expected and not one.endswith(".0.0")], [], (name, size)
+                )
 
     def test_proxied(self) -> None:
         """Version 2 of the PROXY protocol stands in front of any application."""
@@ -395,11 +405,20 @@ class Behind(unittest.TestCase):
     def test_names(self) -> None:
         """ONC RPC of a program that isn't known is the application of its port; encrypted DNS is that of its port too."""
         call = b"\x80\0\0\x28\0\0\0\1\0\0\0\0\0\0\0\2"
-        for port, program, name in ((24007, 14398633, "GlusterFS"), (9999, 14398633, "GlusterFS"), (24007, 300000, "GlusterFS"), (9999, 300000, "ONC RPC")):
+        for port, program, name in (
+            (24007, 14398633, "GlusterFS"),
+            (9999, 14398633, "GlusterFS"),
+            (24007, 300000, "GlusterFS"),
+            (9999, 300000, "ONC RPC"),
+        ):
             self.assertEqual(application_of(TCP, 4000, port, call + struct.pack(">I", program) + bytes(24))[0].name, name)
         for port, message, name in (
-            (10000, b"IceP\1\0\1\0", "ZeroC Ice"), (10000, b"GET / HTTP/1.1\r\n", "HTTP"), (10000, b"\0\0", "NDMP"), (2000, b"OPTIONS sip:a SIP/2.0", "SIP"),
-            (2379, b"GET /v2/members HTTP/1.1\r\n", "etcd"), (21, b"GET / HTTP/1.1\r\n", "FTP"),
+            (10000, b"IceP\1\0\1\0", "ZeroC Ice"),
+            (10000, b"GET / HTTP/1.1\r\n", "HTTP"),
+            (10000, b"\0\0", "NDMP"),
+            (2000, b"OPTIONS sip:a SIP/2.0", "SIP"),
+            (2379, b"GET /v2/members HTTP/1.1\r\n", "etcd"),
+            (21, b"GET / HTTP/1.1\r\n", "FTP"),
         ):
             self.assertEqual((port, application_of(TCP, 4000, port, message)[0].name), (port, name))
         self.assertEqual(application_of(TCP, 4000, 853, b"\x16\3\1 dns.google")[0].name, "DNS over TLS")

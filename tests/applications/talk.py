@@ -171,7 +171,14 @@ def flows(path: str) -> None:
     from scapy.all import IP, UDP, Ether, wrpcap
 
     ends = [("10.1.0.5", "10.1.0.6"), ("10.1.0.6", "10.1.0.7"), ("10.1.0.7", "10.1.0.5")]
-    wrpcap(path, [Ether(src="02:00:00:00:00:01", dst="02:00:00:00:00:02") / IP(src=one, dst=other) / UDP(sport=4000 + place, dport=9) / b"x" for place in range(3) for one, other in ends])
+    wrpcap(
+        path,
+        [
+            Ether(src="02:00:00:00:00:01", dst="02:00:00:00:00:02") / IP(src=one, dst=other) / UDP(sport=4000 + place, dport=9) / b"x"
+            for place in range(3)
+            for one, other in ends
+        ],
+    )
 
 
 def rtpengine() -> None:
