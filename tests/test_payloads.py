@@ -14,10 +14,13 @@ from testing import CHECK, EXPLAIN, PLAN, PROGRAM, RIGHT, capture, said
 from datagrams import fragments, icmp, tcp, udp  # testing says where it is
 from rendapil.bindings import TCP, UDP, Bindings
 from rendapil.document import document_in
+from rendapil.files import Frame
+from rendapil.frames import Event
 from rendapil.packet import Packet
 from rendapil.payloads import kept
 from rendapil.payloads.addresses import Find, octets_in, stun_in, texts_in, words_at
 from rendapil.payloads.applications import APPLICATIONS, application_of
+from rendapil.payloads.behind import DECODERS, PROXY_2
 from rendapil.payloads.scan import HOST, Meant, Scan, lines_of, meaning_in, told_rows
 from rendapil.payloads.structures import MAPPED
 from rendapil.trying.two_realms import fill
@@ -166,6 +169,9 @@ class Evidence(unittest.TestCase):
         """Nothing is told of random octets, of what fills up, and of numbers that count through a block."""
         source = random.Random(5)
         self.assertEqual(told_rows(scan_of(*((host, 999, 998, source.randbytes(1200)) for _ in range(700) for host in HOSTS))), [])
+        spread = ((host, 50_000, 20_000 + number, source.randbytes(1200)) for number in range(700) for host in HOSTS)
+        once = [("10.0.0.5", 50_000, 30_000, b"\1\2\3\4" + OWN)]
+        self.assertEqual([[row.sure for row in told_rows(scan_of(*frames))] for frames in (once, [*once, *spread])], [["maybe"], []])
         self.assertEqual(told_rows(scan_of(*((host, 999, 998, bytes(900)) for host in HOSTS))), [])
         counter = [("10.0.0.7", 999, 998, b"ab" + struct.pack(">I", 0x0A000000 + number)) for number in range(1, 250)]
         self.assertEqual(told_rows(scan_of(*counter)), [])
@@ -307,6 +313,9 @@ class Fields(unittest.TestCase):
             (UDP, 4000, 5351, b"\2\1" + bytes(16) + b"\xff\xff" + OWN + bytes(12), [("PCP, NAT-PMP", "breaks")]),
             (TCP, 445, 4000, SMB_HEAD + b"\x94\1\6\0" + bytes(40) + "\\10.0.0.6\\s".encode("utf-16-le"), [("SMB", "breaks")]),
             (TCP, 445, 4000, SMB_HEAD + bytes(44) + "\\10.0.0.5\\s".encode("utf-16-le"), [("SMB", "tells")]),
+            (TCP, 4000, 8786, b"\x82\xa2op\xa8register\xa7address\xb4tcp://10.0.0.5:4000", [("Dask", "breaks")]),
+            (TCP, 4000, 11311, b"POST / HTTP/1.1\r\nHost: 192.168.200.1:11311\r\n\r\n<value>http://10.0.0.5:4000/</value>", [("ROS", "breaks")]),
+            (UDP, 4000, 2223, b"7_1 d7:command5:offer3:sdp40:v=0\r\no=- 1 1 IN IP4 10.0.0.5\r\n", [("rtpengine, rtpproxy", "tells")]),
             (UDP, 9999, 4000, bytes(12) + MAPPED + OWN, [("", "unsure")]),
         ):
             found = [
@@ -338,6 +347,90 @@ class Fields(unittest.TestCase):
         answer = b"HTTP/1.1 301 Moved\r\nLocation: http://192.168.200.9/x\r\n\r\n"
         scan.take(1, 1, tcp("10.0.0.9", 80, "172.16.9.7", 4000, 24, 1, 1, answer), [tcp("192.168.200.9", 80, "10.0.0.7", 4000, 24, 1, 1, answer)])
         self.assertEqual([row for row in told_rows(scan) if row.weight != "hidden"], [])
+
+
+class Behind(unittest.TestCase):
+    """Addresses in messages of routers, of mobile networks, of probes and of devices."""
+
+    def test_decoders(self) -> None:
+        """Each message has these addresses, and each that is cut has no others."""
+        ten, six = OWN, b"\x0a\0\0\6"
+        template = b"\0\0\0\x10\1\0\0\2\0\x08\0\4\0\x0c\0\4"
+        for name, payload, expected in (
+            ("GTP, PFCP", b"\x30\x10\0\x1f" + bytes(8) + b"\x85\0\4" + ten + b"\x80\0\6\xf1\x21" + six, ["10.0.0.5", "10.0.0.6"]),
+            ("GTP, PFCP", b"\x48\x20\0\x20" + bytes(8) + b"\x57\0\x09\0\x8a\0\0\0\7" + ten, ["10.0.0.5"]),
+            ("GTP, PFCP", b"\x20\5\0\x10\0\0\1\0\0\x3c\0\5\0" + ten, ["10.0.0.5"]),
+            (
+                "MSDP, LDP",
+                b"\0\1\0\x22" + ten + b"\0\0\3\0\0\x18\0\0\0\1\1\1\0\6\0\1" + six + b"\1\0\0\6\2\0\1\x10\x0a\1",
+                ["10.0.0.5", "10.0.0.6", "10.1.0.0"],
+            ),
+            ("MSDP, LDP", b"\0\1\0\x16" + ten + b"\0\0\1\0\0\x0c\0\0\0\1\4\1\0\4" + six, ["10.0.0.5", "10.0.0.6"]),
+            ("Diameter", b"\1\0\0\x24" + bytes(16) + b"\0\0\1\1\x40\0\0\x0e\0\1" + ten + b"\0\0", ["10.0.0.5"]),
+            ("DDS", b"RTPS\2\1" + bytes(14) + b"\x31\0\x18\0\1\0\0\0\xf2\x1c\0\0" + bytes(12) + ten, ["10.0.0.5"]),
+            ("EtherNet/IP", b"\x63\0\x3f\0" + bytes(20) + b"\1\0\x0c\0\x39\0\1\0\0\2\xaf\x12" + ten + bytes(8), ["10.0.0.5"]),
+            ("Firebird", b"\0\0\0\x09" + bytes(12) + b"\0\0\0\x10\2\0\x1f\x90" + ten + bytes(8), ["10.0.0.5"]),
+            ("IAX2", b"\x80\1\0\2" + bytes(8) + b"\x12\x10\2\0\x11\xd9" + ten + bytes(8), ["10.0.0.5"]),
+            ("SOME/IP", b"\xff\xff\x81\0" + bytes(40) + b"\0\x09\4\0" + ten + b"\0\x11\x77\x1a", ["10.0.0.5"]),
+            ("KNXnet/IP", b"\6\x10\2\5\0\x1a\x08\1" + ten + b"\x0e\x57\x08\1" + six + b"\x0e\x57\4\4\2\0", ["10.0.0.5", "10.0.0.6"]),
+            ("BACnet", b"\x81\4\0\x0e" + ten + b"\xba\xc0\1\0\x10\x08", ["10.0.0.5"]),
+            ("BACnet", b"\x81\3\0\x18" + ten + b"\xba\xc0\xff\xff\xff\xff" + six + b"\xba\xc0\xff\xff\xff\xff", ["10.0.0.5", "10.0.0.6"]),
+            ("Mobile IP", b"\1\0\0\x3c" + ten + six + b"\x0a\0\0\7" + bytes(8) + b"\x20\x14", ["10.0.0.5", "10.0.0.6", "10.0.0.7"]),
+            ("flow records", b"\0\5\0\1" + bytes(20) + ten + six + bytes(40), ["10.0.0.5", "10.0.0.6"]),
+            ("flow records", b"\0\x09\0\2" + bytes(16) + template + b"\1\0\0\x0c" + ten + six, ["10.0.0.5", "10.0.0.6"]),
+            ("flow records", b"\0\x0a\0\x2c" + bytes(12) + b"\0\2" + template[2:] + b"\1\0\0\x0c" + ten + six, ["10.0.0.5", "10.0.0.6"]),
+            ("flow records", b"\0\0\0\5\0\0\0\1" + ten + bytes(16), ["10.0.0.5"]),
+            ("tunnels of packets", b"\0\0\x0b\xd7\xf5\xff\xff\xfa\x60" + bytes(40), ["10.0.0.5"]),
+            ("NTP", b"\x97\0\3\1\0\1\0\x48" + ten + six + bytes(64), ["10.0.0.5", "10.0.0.6"]),
+            ("NTP", b"\x97\0\3\x2a\0\1\0\x48" + bytes(16) + ten + six + bytes(48), ["10.0.0.5", "10.0.0.6"]),
+            (
+                "Babel, OLSR",
+                b"\0\x30\0\1\1\6\0\x18" + ten + bytes(8) + b"\6\0\0\x08" + six + b"\4\6\0\x14" + ten + bytes(4) + b"\x0a\1\0\0\xff\xff\0\0",
+                ["10.0.0.5", "10.0.0.6", "10.0.0.5", "10.1.0.0"],
+            ),
+        ):
+            self.assertEqual((name, named(DECODERS[name](payload))), (name, expected))
+            for size in range(len(payload)):
+                self.assertEqual(
+                    [one for one in named(DECODERS[name](payload[:size])) if one not in expected and not one.endswith(".0.0")], [], (name, size)
+                )
+
+    def test_proxied(self) -> None:
+        """Version 2 of the PROXY protocol stands in front of any application."""
+        rows = told_rows(scan_of(("10.0.0.5", 999, 999, PROXY_2 + b"\x21\x11\0\x0c" + OWN + b"\x0a\0\0\6\0\1\0\2GET /"), protocol=TCP))
+        self.assertEqual([example.split(": ")[1] for example in rows[0].examples], ["the PROXY protocol tells the client and its server"] * 2)
+
+    def test_refused(self) -> None:
+        """A protocol that isn't carried is told too where its frames have a TTL of 1."""
+        scan = Scan(meaning_in(Bindings(document_in(RIGHT + STATICS), lambda _: None)))
+        for verdict, protocol in (("TtlSpent", 89), ("Protocol", 112), ("TtlSpent", 17), ("NoBinding", 47)):
+            datagram = bytearray(udp("10.0.0.5", 1, "192.168.200.1", 2, b""))
+            datagram[9] = protocol
+            scan.event(Event(1, 0, 0, verdict, Frame(bytes(datagram), 0, 101, len(datagram)), bytes(datagram), [], []))
+        self.assertEqual([row.application for row in told_rows(scan)], ["OSPF, IP protocol 89", "VRRP, IP protocol 112"])
+
+    def test_names(self) -> None:
+        """ONC RPC of a program that isn't known is the application of its port; encrypted DNS is that of its port too."""
+        call = b"\x80\0\0\x28\0\0\0\1\0\0\0\0\0\0\0\2"
+        for port, program, name in (
+            (24007, 14398633, "GlusterFS"),
+            (9999, 14398633, "GlusterFS"),
+            (24007, 300000, "GlusterFS"),
+            (9999, 300000, "ONC RPC"),
+        ):
+            self.assertEqual(application_of(TCP, 4000, port, call + struct.pack(">I", program) + bytes(24))[0].name, name)
+        for port, message, name in (
+            (10000, b"IceP\1\0\1\0", "ZeroC Ice"),
+            (10000, b"GET / HTTP/1.1\r\n", "HTTP"),
+            (10000, b"\0\0", "NDMP"),
+            (2000, b"OPTIONS sip:a SIP/2.0", "SIP"),
+            (2379, b"GET /v2/members HTTP/1.1\r\n", "etcd"),
+            (21, b"GET / HTTP/1.1\r\n", "FTP"),
+        ):
+            self.assertEqual((port, application_of(TCP, 4000, port, message)[0].name), (port, name))
+        self.assertEqual(application_of(TCP, 4000, 853, b"\x16\3\1 dns.google")[0].name, "DNS over TLS")
+        self.assertEqual(application_of(TCP, 4000, 443, b"\x16\3\1 dns.google")[0].name, "DNS over HTTPS")
+        self.assertEqual([named(texts_in(text)) for text in (b"GET /10.0.0.5:80 HTTP/1.1", b"GET /10.0.0.5 HTTP/1.1")], [["10.0.0.5"], []])
 
 
 class Told(ExplainRoom):

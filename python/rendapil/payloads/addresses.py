@@ -86,7 +86,8 @@ def dotted(payload: bytes, one: re.Match[bytes]) -> Iterator[Find]:
     if len(parts) not in (4, 6) or before[-1:].isdigit() or before[-1:] == b"." or behind[:1].isdigit() or behind.lower().startswith(b".in-addr"):
         return
     address = number_of(parts[:4])
-    is_vague = len(parts) == 4 and (before[-1:].isalpha() or before[-1:] in (b"_", b"/") and before != b"//")
+    is_port = re.match(rb":[0-9]{2,5}(?![0-9.])", behind)
+    is_vague = len(parts) == 4 and not is_port and (before[-1:].isalpha() or before[-1:] in (b"_", b"/") and before != b"//")
     if address:
         yield Find(TEXT, one.start(), one.end(), address, is_vague)
 

@@ -32,6 +32,8 @@ APPLICATIONS = [
     Application("H.323", (1720,), (1718, 1719), BREAKS, "setup tells the addresses of H.245 and of media", "a gatekeeper that is a proxy, or H.460.18 and 19"),
     Application("MGCP, Megaco", (2944,), (2427, 2727, 2944), BREAKS, "SDP tells where media goes", SBC),
     Application("SCCP", (2000,), (), BREAKS, "OpenReceiveChannel tells where media goes", "a call manager in each realm, with a trunk through a session border controller"),
+    Application("rtpengine, rtpproxy", (), (2223, 22222, 22223), BREAKS, "SDP and commands tell where media goes", "the relay for media in the realm of its SIP server"),
+    Application("IAX2", (), (4569,), TELLS, "the client's address as the server sees it", "nothing: media goes on the same connection"),
     Application("FTP", (21,), (), TELLS, "a line names a third host (FXP), or follows TLS that was ended (CCC)", "EPSV, and transfers between client and server"),
     Application("FTP on another port than 21", (), (), TELLS, "PORT, EPRT and 227 tell where data goes", "port 21, or EPSV"),
     Application("FTP over TLS", (990,), (), HIDDEN, "PORT and 227 can't be read, so aren't changed", "EPSV, or SFTP"),
@@ -66,6 +68,9 @@ APPLICATIONS = [
     Application("IKE, IPsec", (), (500, 4500), HIDDEN, "identities may be addresses, and AH and bare ESP don't pass", "NAT traversal (UDP 4500), and identities by name"),
     Application("PPTP", (1723,), (), BREAKS, "GRE, which the gateway refuses, carries its data", "another tunnel, over UDP or TCP"),
     Application("tunnels of packets", (), (4789, 8472, 6081, 2152, 1701, 3544, 4341), TELLS, "packets of an inner network, which go on as they are", "nothing, where both ends of the tunnel stand outside the inner network"),
+    Application("Mobile IP", (), (434,), BREAKS, "registrations tell home agents and care-of addresses", "home agent and mobile node in one realm"),
+    Application("n2n", (), (7654,), BREAKS, "the supernode tells edges where others are", "another tunnel, from end to end"),
+    Application("WCCP", (), (2048,), BREAKS, "routers and caches tell each other's addresses", "routers and their caches in one realm"),
     Application("GTP, PFCP", (), (2123, 8805), BREAKS, "F-TEIDs tell where a tunnel goes", "both ends in one realm"),
     Application("BGP", (179,), (), TELLS, "NEXT_HOP tells where routes lead, and OPEN has the router's identifier", "no peering over the gateway"),
     Application("RIP", (), (520,), BREAKS, "routes and next hops are addresses", ROUTERS),
@@ -87,6 +92,7 @@ APPLICATIONS = [
     Application("MySQL", (3306, 33060), (), TELLS, "commands and tables of replication tell hosts", MEMBERS),
     Application("PostgreSQL", (5432,), (), TELLS, "connection strings tell hosts", MEMBERS),
     Application("Galera", (4567,), (), BREAKS, "members tell each other's addresses", MEMBERS),
+    Application("Firebird", (3050,), (), TELLS, "a request for events is answered with an address", "no events, or RemoteBindAddress and a proxy"),
     Application("Redis", (6379, *range(7000, 7006)), (), TELLS, "MOVED, ASK and tables of nodes tell addresses", "cluster-announce-hostname, or a proxy"),
     Application("Redis Sentinel", (26379,), (), BREAKS, "sentinels tell the address of the master", "resolve-hostnames and announce-hostnames, or a proxy"),
     Application("Kafka", (9092,), (), BREAKS, "metadata tells the addresses of brokers", "advertised.listeners by name"),
@@ -97,14 +103,33 @@ APPLICATIONS = [
     Application("etcd", (2379, 2380), (), BREAKS, "members tell the URLs for clients and peers", "advertise-client-urls by name"),
     Application("Consul, Nomad", (8300, 8500, 4646), (7946, 8301, 8302), BREAKS, "catalogues and gossip tell addresses", "advertise addresses, or a mesh gateway"),
     Application("NATS", (4222,), (), TELLS, "INFO tells connect_urls", "no_advertise, or names"),
+    Application("Dask", (8786,), (), TELLS, "the scheduler, workers and clients tell each other's addresses", "contact addresses by name"),
+    Application("Spark", (7077,), (), BREAKS, "the driver, the master and workers tell each other's addresses", "spark.driver.host and SPARK_LOCAL_HOSTNAME by name"),
+    Application("Hadoop", (8020,), (), BREAKS, "the name node tells the addresses of data nodes", "dfs.client.use.datanode.hostname = true, and names"),
+    Application("Pulsar", (6650,), (), BREAKS, "lookups tell the addresses of brokers", "advertisedAddress by name, or a proxy"),
+    Application("RocketMQ", (9876, 10911), (), BREAKS, "the name server tells the addresses of brokers", "brokerIP1 by name, or a proxy"),
+    Application("Hazelcast", (5701,), (), BREAKS, "members tell each other's addresses", "public-address by name"),
+    Application("Couchbase", (8091, 11210), (), BREAKS, "the map of a cluster tells the addresses of nodes", "alternate addresses by name"),
+    Application("ActiveMQ", (61616,), (), TELLS, "the broker tells its URL and those of its peers", "publishedAddressPolicy by name"),
     Application("Ceph", (3300, 6789), (), BREAKS, "maps tell the addresses of monitors and of OSDs", "storage and its clients in one realm"),
     Application("GlusterFS", (24007, 24008), (), BREAKS, "volume files have the addresses of bricks", "bricks by name"),
+    Application("MooseFS", (9419, 9420, 9421), (), BREAKS, "the master tells the addresses of chunk servers", "storage and its clients in one realm"),
+    Application("Lustre", (988,), (), BREAKS, "identifiers of nodes are addresses", "storage and its clients in one realm"),
     Application("Corosync", (), (5404, 5405), BREAKS, "members tell each other's addresses", "members in one realm"),
     Application("Bacula", (9101, 9102, 9103), (), TELLS, "the director tells the address of the storage", "storage by name"),
     Application("RMI, JMX", (1099,), (), BREAKS, "stubs have the server's address", "java.rmi.server.hostname by name"),
     Application("CORBA", (2809,), (), BREAKS, "IORs have the server's address", "published names in place of addresses"),
+    Application("ZeroC Ice", (4061,), (), BREAKS, "proxies have the endpoints of servers", "PublishedHost by name"),
+    Application("DDS", (), tuple(range(7400, 7424)), BREAKS, "locators tell where participants listen", "a router of DDS between the realms"),
+    Application("ROS", (11311,), (), BREAKS, "the master tells the URIs of nodes", "ROS_HOSTNAME by name"),
+    Application("OPC UA", (4840,), (), BREAKS, "endpoint URLs have the server's address", "endpoint URLs by name"),
+    Application("KNXnet/IP", (3671,), (3671,), BREAKS, "a client tells where answers go", "route back (0.0.0.0 as the client's address), or TCP"),
+    Application("BACnet", (), (47808,), TELLS, "what a BBMD forwards tells its sender", "a BBMD in each realm, and BACnet/SC between"),
+    Application("EtherNet/IP", (44818,), (2222, 44818), TELLS, "a device tells its socket address", "devices by configuration, under the alias"),
+    Application("SOME/IP", (), (30490,), BREAKS, "service discovery tells endpoints", "services and their clients in one realm"),
     Application("iSCSI", (3260,), (), TELLS, "SendTargets answers with TargetAddress", "static targets, and portals without addresses of their own"),
     Application("iSNS", (3205,), (3205,), BREAKS, "portals are addresses", "static targets"),
+    Application("WINS", (42,), (), BREAKS, "records of names have addresses", "DNS in place of WINS"),
     Application("NDMP", (10000,), (), BREAKS, "the data server tells its address", "a backup server in each realm"),
     Application("RDP", (3389,), (3389,), TELLS, "a connection broker may redirect to an address", "redirects by name"),
     Application("Citrix", (1494, 2598), (), BREAKS, "the broker tells the server's address", "a Citrix gateway"),
@@ -112,6 +137,9 @@ APPLICATIONS = [
     Application("AFS", (), tuple(range(7000, 7010)), BREAKS, "the volume server tells the addresses of file servers", "file servers and clients in one realm"),
     Application("BitTorrent", (6969,), (6881, 6969), TELLS, "trackers and peers tell the addresses of peers", "IPv6, or peers in one realm"),
     Application("lists of game servers", (), (27011, 27950), BREAKS, "a master tells the addresses of servers", "servers by name"),
+    Application("eDonkey", (4661, 4662), (4665, 4672), BREAKS, "servers and peers tell the addresses of peers", "peers in one realm"),
+    Application("Gnutella", (6346,), (6346,), BREAKS, "pongs and hits tell the addresses of peers", "peers in one realm"),
+    Application("Direct Connect", (411, 412), (412,), BREAKS, "a hub tells where clients connect", "passive mode of one side"),
     Application("Bitcoin", (8333, 18333), (), TELLS, "messages tell the addresses of peers", "peers in one realm"),
     Application("Ethereum", (), (30303,), BREAKS, "pings and neighbours tell where peers are", "peers in one realm"),
     Application("CAPWAP", (), (5246, 5247), BREAKS, "a controller tells where access points connect", "controllers and access points in one realm"),
@@ -181,12 +209,20 @@ SIGNATURES = [
     ("Ceph", re.compile(rb"ceph v[02 ]")),
     ("NATS", re.compile(rb"INFO \{\"server_id\"")),
     ("X11", re.compile(rb"l\x00\x0b\x00\x00\x00|B\x00\x00\x0b\x00\x00")),
+    ("ZeroC Ice", re.compile(rb"IceP\x01")),
+    ("DDS", re.compile(rb"RTP[SX]\x02")),
+    ("OPC UA", re.compile(rb"(?:HEL|ACK|OPN|MSG)F(?s:.{2})\x00\x00(?s:.{4})")),
+    ("Direct Connect", re.compile(rb"\$Lock EXTENDEDPROTOCOL|[HI]SUP AD")),
+    ("ActiveMQ", re.compile(rb"(?s:.{4})\x01ActiveMQ")),
+    ("Hadoop", re.compile(rb"hrpc[\x04-\x0f]")),
     ("WS-Discovery, ONVIF", re.compile(rb"(?s:.{0,400})(?:ws/2005/04/discovery|onvif\.org)")),
     ("MGCP, Megaco", re.compile(rb"(?:CRCX|MDCX|DLCX|RQNT|NTFY|AUEP|RSIP) \d+ |MEGACO/|!/")),
     ("lists of game servers", re.compile(rb"\xff{4}(?:getservers|\x66\n)")),
     ("Gopher", re.compile(rb"[0-9ghIi][^\t\r\n]{0,200}\t[^\t\r\n]{0,300}\t[^\t\r\n]{1,100}\t\d{1,5}\r\n")),
 ]
-PROGRAMS = {100000: "portmap", 100003: "NFS", 100005: "NFS mounts", 100004: "NIS", 100007: "NIS", 100009: "NIS", 600100069: "NIS"}
+PROGRAMS = {100000: "portmap", 100003: "NFS", 100005: "NFS mounts", 100004: "NIS", 100007: "NIS", 100009: "NIS", 600100069: "NIS"} | {
+    program: "GlusterFS" for program in (1238433, 1238463, 1298437, 14398633, 34123456)
+}
 """Programs of ONC RPC."""
 TLS = re.compile(rb"[\x14-\x17]\x03[\x00-\x04]")
 """How a record of TLS begins."""
@@ -234,10 +270,24 @@ def by_port(protocol: int, port: int, far_port: int) -> tuple[Application | None
     return None, min(port, far_port)
 
 
+CLEAR = ("SIP", "RTSP", "SSDP, UPnP", "HTTP", "CORBA", "SMB", "RMI, JMX", "NATS", "ZeroC Ice", "DDS", "OPC UA", "ActiveMQ")
+"""Applications whose messages can't be others: what is said tells more than the port."""
+
+OWN_HTTP = ("etcd", "Couchbase", "ROS", "FTP", "DNS", "SNMP", "TLS")
+"""Applications that speak HTTP themselves, and those whose ports the gateway looks into, whatever is said there."""
+
+
+def clear_in(protocol: int, known: Application, payload: bytes) -> str:
+    """The name of another application than that of the port, whose message can't be another one's."""
+    if known.name in OWN_HTTP:
+        return ""
+    return next((name for name, signature in SIGNATURES if name in CLEAR and (protocol == TCP or name != "HTTP") and signature.match(payload)), "")
+
+
 def application_of(protocol: int, port: int, far_port: int, payload: bytes) -> tuple[Application, int]:
     """The application of a flow by its ports and by a payload of it, and the port of its server."""
     known, server = by_port(protocol, port, far_port)
-    if rpc := rpc_of(protocol, payload):
+    if (rpc := rpc_of(protocol, payload)) and not (rpc == "ONC RPC" and known):
         return BY_NAME[rpc], far_port
     is_tls = protocol == TCP and TLS.match(payload)
     if known and known.name == "FTP" and is_tls:
@@ -245,10 +295,12 @@ def application_of(protocol: int, port: int, far_port: int, payload: bytes) -> t
     if known and known.name == "SNMP" and payload[:1] == b"\x30" and b"\x02\x01\x03" in payload[1:8]:
         return BY_NAME["SNMP version 3"], server
     if is_tls:
-        if RESOLVERS.search(payload):
+        if RESOLVERS.search(payload) and not (known and known.weight == HIDDEN):
             return BY_NAME["DNS over HTTPS"], server
         return known if known and known.name != "HTTP" else BY_NAME["TLS"], server
     if not known or known.name in SHARED or (protocol, server) in VAGUE:
         if name := said_in(protocol, payload):
             return BY_NAME[name], server
+    elif name := clear_in(protocol, known, payload):
+        return BY_NAME[name], server
     return (known if known and (protocol, server) not in VAGUE else UNKNOWN), server

@@ -93,11 +93,19 @@ class Site:
     flows: set[bytes] = field(default_factory=set)
 
 
-class App:
-    """What was seen of an application: on one port of servers, or of one name."""
+@dataclass(slots=True)
+class Trials:
+    """How many places were looked at, each as often as there are hosts that it could mean."""
 
-    def __init__(self, of: Application, protocol: int, port: int) -> None:
-        self.of, self.protocol, self.port = of, protocol, port
+    count: float = 0.0
+
+
+class App:
+    """What was seen of an application: on one port of servers, or of one name. `together` counts for all ports without a name: of many ports one has a
+    find by chance."""
+
+    def __init__(self, of: Application, protocol: int, port: int, together: Trials) -> None:
+        self.of, self.protocol, self.port, self.together = of, protocol, port, together
         self.flows = self.frames = self.more = 0
         self.told: Counter[str] = Counter()
         self.told_flows: Counter[str] = Counter()
@@ -144,6 +152,11 @@ class Row(NamedTuple):
     def chance(self) -> float:
         """How many finds of four octets one would expect by chance."""
         return chance_of(self.app)
+
+
+def is_rare(app: App) -> bool:
+    """Whether chance gives so few finds that a single one counts."""
+    return max(chance_of(app), app.together.count / 2**32) < RARE
 
 
 def chance_of(app: App) -> float:

@@ -11,7 +11,7 @@ from typing import NamedTuple
 
 from rendapil.bindings import CHANGED, FTP_PORT, SIDES, TCP, UDP
 from rendapil.frames import Event
-from rendapil.packet import is_private
+from rendapil.packet import ICMP, is_private
 from rendapil.payloads.addresses import (
     COOKIE,
     FIELD,
@@ -49,7 +49,6 @@ from rendapil.payloads.kept import (
     PLAIN,
     PREFIXES,
     PRIVATE,
-    RARE,
     ROLES,
     SITES,
     SURE,
@@ -62,16 +61,21 @@ from rendapil.payloads.kept import (
     Meant,
     Row,
     Site,
-    chance_of,
+    Trials,
+    is_rare,
     meaning_in,
 )
-from rendapil.payloads.structures import BOUND, DECODERS, MAPPED, NAMED_TO_PROXY, SEEN, TO_CONNECT, mapped
+from rendapil.payloads.behind import DECODERS, PROXY_2, proxied
+from rendapil.payloads.structures import BOUND, MAPPED, NAMED_TO_PROXY, SEEN, TO_CONNECT, mapped
 
 __all__ = ["HOST", "MAYBE", "Meant", "Scan", "example_of", "lines_of", "meaning_in", "summary_of", "told_rows"]
 
 
 SEALED = {one.name for one in BY_NAME.values() if one.weight == HIDDEN} | {"TLS", "QUIC"}
 """Applications that can't be read behind their first messages."""
+
+CARRIED, NOT_CARRIED = (ICMP, TCP, UDP), ("Protocol", "TtlSpent")
+"""Protocols that the gateway carries, and verdicts of frames of one that the gateway refuses: neighbours often send them with a TTL of 1."""
 
 SEALED_AFTER = 8
 """How many payloads of such a flow are looked into."""
@@ -103,6 +107,7 @@ class Scan:
         self.apps: dict[tuple[str, int, int], App] = {}
         self.refused: Counter[int] = Counter()
         self.latest: list[Left] = []
+        self._unnamed = Trials()
         self._flows: dict[bytes, Flow] = {}
         self._opened: dict[bytes, None] = {}
         self._blocks: tuple[dict[bytes, set[bytes]], ...] = ({}, {})
@@ -113,7 +118,7 @@ class Scan:
         self.latest = []
         if event.verdict == "pass" and event.datagram:
             self.take(event.number, event.side, event.datagram, event.images)
-        elif event.verdict == "Protocol" and event.datagram:
+        elif event.verdict in NOT_CARRIED and event.datagram and event.datagram[9] not in CARRIED:
             self.refused[event.datagram[9]] += 1
 
     def take(self, number: int, side: int, came: bytes, sent: list[bytes]) -> None:
@@ -149,6 +154,8 @@ class Scan:
         """Looks into a payload, and notes what is found."""
         app = flow.app
         app.trials += len(payload) * flow.weight
+        if not app.of.name:
+            app.together.count += len(payload) * flow.weight
         if payload[:4] in METHODS or app.of.name == "SOCKS" and not flow.is_served:
             flow.asked = payload[:LONG]
         finds = self._finds(flow, payload)
@@ -199,7 +206,7 @@ class Scan:
         if key not in self.apps and len(self.apps) >= APPS and not is_named:
             key = (of.name, protocol, 0)
         if key not in self.apps:
-            self.apps[key] = App(of, protocol, port if key[2] or is_named else 0)
+            self.apps[key] = App(of, protocol, port if key[2] or is_named else 0, Trials() if is_named else self._unnamed)
         return self.apps[key]
 
     def _aim(self, flow: Flow, key: bytes, side: int, sent: list[bytes]) -> None:
@@ -221,6 +228,8 @@ class Scan:
             finds += decoder(payload)
         elif name in WEB and b":peers" in payload:
             finds += DECODERS["BitTorrent"](payload)
+        if payload.startswith(PROXY_2):
+            finds += proxied(payload)
         if MAPPED in payload and not any(one.form == FIELD for one in finds):
             finds += mapped(payload)
         if prefixes := [prefix for prefix in flow.prefixes if prefix in payload]:
@@ -405,14 +414,14 @@ def degree_of(app: App, site: Site) -> str:
     if site.form in PLAIN:
         return SURE
     if site.form == LITTLE and len(site.values) < 2:
-        return MAYBE if site.frames >= 3 and chance_of(app) < RARE else ""
+        return MAYBE if site.frames >= 3 and is_rare(app) else ""
     if app.strays[site.at] >= site.frames:
         return ""
     if len(site.values) > 1 and (site.role in (ITSELF, PEER, PEER_OWN) or site.frames >= 4):
         return SURE
     if site.frames >= 3:
         return LIKELY
-    if chance_of(app) < RARE:
+    if is_rare(app):
         return LIKELY if app.of.name else MAYBE
     return ""
 
@@ -449,17 +458,24 @@ MEANS = {
 
 REFUSED = {
     4: ("IP in IP", "another tunnel, over UDP or TCP"),
+    33: ("DCCP", "DCCP over UDP (RFC 6773)"),
     41: ("IPv6 in IPv4", "another tunnel, over UDP or TCP"),
+    46: ("RSVP", "no reservations over the gateway"),
     47: ("GRE", "end the tunnel before the gateway, or another one over UDP or TCP"),
     50: ("ESP of IPsec", "NAT traversal (UDP 4500), or end the tunnel before the gateway"),
     51: ("AH of IPsec", "ESP with NAT traversal (UDP 4500)"),
     88: ("EIGRP", "a static route to the pool in each realm"),
     89: ("OSPF", "a static route to the pool in each realm"),
     94: ("IP in IP", "another tunnel, over UDP or TCP"),
+    97: ("EtherIP", "another tunnel, over UDP or TCP"),
     103: ("PIM", "no multicast over the gateway"),
     112: ("VRRP", "routers of a group in one realm"),
+    108: ("IPComp", "no compression of packets"),
     115: ("L2TP without UDP", "L2TP over UDP"),
     132: ("SCTP", "SCTP over UDP (RFC 6951), or TCP"),
+    136: ("UDP-Lite", "UDP"),
+    137: ("MPLS in IP", "MPLS over UDP (RFC 7510)"),
+    139: ("HIP", "HIP over UDP (RFC 9028)"),
 }
 """Protocols that the gateway refuses, by number: their name, and what helps."""
 

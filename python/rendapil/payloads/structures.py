@@ -175,17 +175,20 @@ def update(message: bytes) -> Iterator[Find]:
     yield from prefixes(message, end, len(message), 1)
 
 
+MARKER = b"\xff" * 16
+
+
 def bgp(payload: bytes) -> Iterator[Find]:
-    """The identifier in OPEN, and what UPDATE has, message by message."""
-    at = 0
-    while payload[at : at + 16] == b"\xff" * 16 and len(payload) >= at + 19:
+    """The identifier in OPEN, and what UPDATE has, message by message. A segment may begin within a message."""
+    at = payload.find(MARKER)
+    while 0 <= at <= len(payload) - 19:
         size, kind = struct.unpack_from(">HB", payload, at + 16)
         if kind == 1:
             yield from at_place(payload, at + 24, ROUTER)
         elif kind == 2:
             with suppress(IndexError):
                 yield from (one._replace(at=one.at + at, end=one.end + at) for one in update(payload[at : at + size]))
-        at += max(size, 19)
+        at = at + size if size >= 19 and payload.startswith(MARKER, at + size) else payload.find(MARKER, at + 19)
 
 
 DHCP_ADDRESSES = {28: LEASE, 92: LEASE, 50: LEASE, 54: LEASE, 3: LEASE, 5: LEASE, 6: LEASE, 42: LEASE, 44: LEASE, 69: LEASE, 118: LEASE, 150: LEASE}
