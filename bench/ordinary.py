@@ -56,7 +56,9 @@ class Dialogue:
         turn = -1 if side else 1
         numbers = self._next[side], self._next[1 - side] if flags & 16 else 0
         self._next[side] += len(octets) + bool(flags & 3)
-        return self._link.frame(6, *self._ends[::turn], struct.pack(">HHIIBBHHH", *self._ports[::turn], *numbers, 0x50, flags, 8192, 0, 0) + octets, 16)
+        return self._link.frame(
+            6, *self._ends[::turn], struct.pack(">HHIIBBHHH", *self._ports[::turn], *numbers, 0x50, flags, 8192, 0, 0) + octets, 16
+        )
 
     def opens(self) -> Iterator[bytes]:
         """Its three first segments."""
