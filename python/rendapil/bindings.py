@@ -334,7 +334,10 @@ class Bindings:
         self._many = 1024  # connections, at which those that have ended are dropped
         self._parts: dict[bytes, tuple[int, bytearray]] = {}
         self._is_astray = False
-        self._used: tuple[dict[bytes, list[Binding]], ...] = ({}, {})  # by the side and the ends of a datagram that came and went, as long as nothing is bound
+        self._used: tuple[dict[bytes, list[Binding]], ...] = (
+            {},
+            {},
+        )  # by the side and the ends of a datagram that came and went, as long as nothing is bound
         for row in settings.get("static", []):
             self._bind(Binding(SIDES.index(row["side"]), int(IPv4Address(row["host"])), int(IPv4Address(row["alias"])), True), 0)
 
