@@ -467,8 +467,9 @@ class Bindings:
             connection, hold = known, TCP_HOLD
             self._connections.pop(key, None)
         else:
-            connection = known
-            if not known or known.is_closing:
+            if known and not known.is_closing:
+                connection = known
+            else:
                 connection = self._connections[key] = connection_begun(known, came)
             hold = connection.note(side, flags)
             connection.end = moment + hold

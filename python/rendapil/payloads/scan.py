@@ -106,6 +106,7 @@ class Scan:
         self._flows: dict[bytes, Flow] = {}
         self._opened: dict[bytes, None] = {}
         self._blocks: tuple[dict[bytes, set[bytes]], ...] = ({}, {})
+        self._ranked: tuple[list[bytes], ...] = ()  # these blocks by side, those with the most hosts first, as long as no host comes
         self.scanned = 0
 
     def event(self, event: Event) -> None:
@@ -184,7 +185,9 @@ class Scan:
         for end in (key[:4], key[4:8]):
             if is_private(int.from_bytes(end)) and (end[:2] in self._blocks[side] or len(self._blocks[side]) < BLOCKS):
                 hosts = self._blocks[side].setdefault(end[:2], set())
-                hosts |= {end} if len(hosts) < BLOCK else set()
+                if end not in hosts and len(hosts) < BLOCK:
+                    hosts.add(end)
+                    self._ranked = ()
         return flow
 
     def _rename(self, flow: Flow, of: Application) -> None:
@@ -206,7 +209,9 @@ class Scan:
     def _aim(self, flow: Flow, key: bytes, side: int, sent: list[bytes]) -> None:
         """Chooses what is looked for in a flow: the blocks of its ends, and those in which most hosts of its realm are."""
         ends = [key[:4], key[4:8], *(image[16:20] for image in sent[:1])]
-        mine, theirs = (sorted(blocks, key=lambda one: -len(blocks[one])) for blocks in (self._blocks[side], self._blocks[1 - side]))
+        if not self._ranked:
+            self._ranked = tuple(sorted(blocks, key=lambda one: -len(blocks[one])) for blocks in self._blocks)
+        mine, theirs = self._ranked[side], self._ranked[1 - side]
         flow.prefixes = list(dict.fromkeys([end[:2] for end in ends] + mine[:4] + theirs[:2]))[:PREFIXES]
         flow.turned = tuple(dict.fromkeys(end[::-1] for end in ends))
         left, right = self._blocks
