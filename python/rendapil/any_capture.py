@@ -18,6 +18,9 @@ IPV4 = b"\x08\x00"
 TAGS = (b"\x81\x00", b"\x88\xa8", b"\x91\x00")
 """The types of Ethernet frames that have a VLAN tag."""
 
+PLAIN = IPV4 + b"\x45"
+"""What most Ethernet frames have behind their addresses: a datagram without options."""
+
 OTHERS = (b"\x88\x64", b"\x88\x47")
 """Types in which scapy looks for a datagram: PPPoE and MPLS."""
 
@@ -212,6 +215,8 @@ def with_length(datagram: bytes) -> bytes:
 
 def whole_of(link: int, octets: bytes) -> tuple[bytes, int]:
     """The datagram of a frame without what its link put behind it, and its length on the wire."""
+    if link == 1 and octets[12:15] == PLAIN and len(octets) >= 34 and (total := int.from_bytes(octets[16:18])) >= 20:
+        return octets[14 : 14 + total], total
     datagram = with_length(datagram_in(link, octets))
     total = int.from_bytes(datagram[2:4])
     return datagram[:total] if total >= 20 else datagram, max(total, 20)

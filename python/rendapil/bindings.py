@@ -33,6 +33,9 @@ def datagram_of(frame: bytes, link: int) -> bytes:
 OF_A_FRAME = ("Snapped", "NotIpv4", "BadHeader", "BadHeaderSum", "Fragment", "IpOptions", "BadFragment", "FragmentsFull")
 """The refusals of a fragment by itself: the datagram that it is of goes on waiting for its other fragments."""
 
+USED = 1 << 14
+"""The most pairs of ends of which it is kept whose they are."""
+
 JOINED = 64
 """The most datagrams that the gateway joins at once."""
 
@@ -331,6 +334,10 @@ class Bindings:
         self._many = 1024  # connections, at which those that have ended are dropped
         self._parts: dict[bytes, tuple[int, bytearray]] = {}
         self._is_astray = False
+        self._used: tuple[dict[bytes, list[Binding]], ...] = (
+            {},
+            {},
+        )  # by the side and the ends of a datagram that came and went, as long as nothing is bound
         for row in settings.get("static", []):
             self._bind(Binding(SIDES.index(row["side"]), int(IPv4Address(row["host"])), int(IPv4Address(row["alias"])), True), 0)
 
@@ -338,7 +345,7 @@ class Bindings:
         """A datagram that came from a side, and those that were sent for it to the other."""
         self._is_astray = False
         try:
-            if verdict not in OF_A_FRAME and len(came) >= 20 and int.from_bytes(came[6:8]) & 0x3FFF:
+            if len(came) >= 20 and (came[7] or came[6] & 0x3F) and verdict not in OF_A_FRAME:
                 came = self._joined(side, moment, came, verdict == "held")
             if verdict == "pass":
                 follow = self._segment if came[9] == TCP else self._message
@@ -367,6 +374,8 @@ class Bindings:
 
     def _bind(self, binding: Binding, moment: int) -> None:
         """A host and its alias forget whom they stood for before."""
+        for used in self._used:
+            used.clear()
         pool = self.pools[1 - binding.side]
         for before in (self._hosts.get((binding.side, binding.host)), pool.holders.get(binding.alias)):
             if before and pool.holders.get(before.alias) is before:
@@ -427,9 +436,16 @@ class Bindings:
         return binding
 
     def _header(self, side: int, moment: int, came: bytes, sent: list[bytes], hold: int) -> None:
-        """Both addresses of a datagram."""
-        for at in (12, 16):
-            self._use(side, moment, came[at : at + 4], sent[0][at : at + 4], hold)
+        """Both addresses of a datagram. Those of one between the same ends are the same, as long as no address is bound and theirs live."""
+        used, ends = self._used[side], came[12:20] + sent[0][12:20]
+        known = used.get(ends)
+        if known is None or not all(one.fixed or moment < one.end for one in known):
+            found = [self._use(side, moment, came[at : at + 4], sent[0][at : at + 4], hold) for at in (12, 16)]
+            if not self._is_astray and len(used) < USED and len(ends) == 16:
+                used[ends] = list(filter(None, found))
+            return
+        for one in known:
+            one.use(moment, moment + hold)
 
     def _message(self, side: int, moment: int, came: bytes, sent: list[bytes]) -> None:
         """A datagram of UDP or ICMP: its addresses, and those that a DNS message names."""
@@ -446,17 +462,22 @@ class Bindings:
         known = self._connections.get(key)
         if known and known.end <= moment:
             known = None
-        if came[33] & RST and (not known or known.is_ended_by(side, came)):
+        flags = came[33]
+        if flags & RST and (not known or known.is_ended_by(side, came)):
             connection, hold = known, TCP_HOLD
             self._connections.pop(key, None)
         else:
-            connection = self._connections[key] = connection_begun(known, came)
-            hold = connection.note(side, came[33])
+            if known and not known.is_closing:
+                connection = known
+            else:
+                connection = self._connections[key] = connection_begun(known, came)
+            hold = connection.note(side, flags)
             connection.end = moment + hold
         self._header(side, moment, came, sent, hold)
         if connection and connection.session:
             self._spoken(connection.session, side, moment, came, sent, hold)
-        self._forget_connections(moment)
+        if len(self._connections) > self._many:
+            self._forget_connections(moment)
 
     def _spoken(self, session: Session, side: int, moment: int, came: bytes, sent: list[bytes], hold: int) -> None:
         """Follows the streams of a session. What a session of DNS has named is used by each of its segments."""
@@ -478,7 +499,6 @@ class Bindings:
                 binding.use(moment, moment + hold)
 
     def _forget_connections(self, moment: int) -> None:
-        """Drops those that have ended, once there are many."""
-        if len(self._connections) > self._many:
-            self._connections = {key: one for key, one in self._connections.items() if moment < one.end}
-            self._many = 1024 + 2 * len(self._connections)
+        """Drops those that have ended, since there are many."""
+        self._connections = {key: one for key, one in self._connections.items() if moment < one.end}
+        self._many = 1024 + 2 * len(self._connections)

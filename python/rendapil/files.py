@@ -141,11 +141,21 @@ def lines(file: BinaryIO, path: str) -> Iterator[Line | str]:
     """The lines of a report, and its last one as text if it is there. A line that was cut at the end isn't told."""
     place = 0
     verdicts: set[str] = set()
+    ends: dict[bytes, tuple[str, int]] = {}  # verdicts with numbers of frames, as they stood in lines before
     while text := file.readline(LINE):
         place += 1
+        number, _, rest = text.partition(b" ")
+        side, _, rest = rest.partition(b" ")
+        moment, _, end = rest.partition(b" ")
+        # Most lines end as one before: these are taken without being parsed anew.
+        if end in ends and number == b"%d" % place and side in SIDES and moment.isdigit() and len(moment) < 20 and int(moment) < MOMENTS:
+            yield Line._make((place, SIDES[side], int(moment), *ends[end]))
+            continue
         line = line_of(text)
         if line and line.number == place and (line.verdict in verdicts or len(verdicts) < VERDICTS):
             verdicts.add(line.verdict)
+            if end and len(ends) < 4 * VERDICTS:
+                ends[end] = line.verdict, line.frames
             yield line
         elif DONE.fullmatch(text):
             yield text.decode().strip()

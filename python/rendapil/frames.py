@@ -53,9 +53,15 @@ def address_of(octets: bytes) -> str:
     return f"{one}.{two}.{three}.{four}"
 
 
+@lru_cache(maxsize=8192)
+def way_of(ends: bytes) -> str:
+    """Source and destination, by eight octets."""
+    return f"{address_of(ends[:4])} -> {address_of(ends[4:])}"
+
+
 def ways(datagram: bytes) -> str:
     """Source and destination."""
-    return f"{address_of(datagram[12:16])} -> {address_of(datagram[16:20])}"
+    return way_of(datagram[12:20])
 
 
 class Segment:
@@ -119,12 +125,17 @@ SPOKEN = (FTP_PORT.to_bytes(2), DNS_PORT.to_bytes(2))
 """Ports whose payloads are told in words."""
 
 
+def may_speak(datagram: bytes) -> bool:
+    """Whether a datagram may be one of which `spoken` tells something. Most aren't."""
+    if len(datagram) < 20:  # of an outgoing capture that isn't as the gateway left it
+        return False
+    head = (datagram[0] & 15) * 4
+    return datagram[head : head + 2] in SPOKEN or datagram[head + 2 : head + 4] in SPOKEN
+
+
 def spoken(datagram: bytes) -> list[str]:
     """What a datagram says in words, if it is of an FTP control connection or of DNS over UDP."""
-    if len(datagram) < 20:  # of an outgoing capture that isn't as the gateway left it
-        return []
-    head = (datagram[0] & 15) * 4
-    if not (datagram[head : head + 2] in SPOKEN or datagram[head + 2 : head + 4] in SPOKEN) or int.from_bytes(datagram[6:8]) & 0x3FFF:
+    if not may_speak(datagram) or int.from_bytes(datagram[6:8]) & 0x3FFF:
         return []
     try:
         if datagram[9] == TCP:

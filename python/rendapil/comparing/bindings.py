@@ -4,6 +4,7 @@ import struct
 from collections import Counter
 from collections.abc import Iterable, Iterator
 from dataclasses import dataclass, field
+from functools import lru_cache
 from ipaddress import IPv4Address
 from zlib import crc32
 
@@ -31,9 +32,8 @@ def identity(datagram: bytes, has_ports: bool = True) -> bytes:
     """What a gateway leaves as it is in most frames, without addresses. Nothing where too little is left to tell frames apart."""
     head, protocol = (datagram[0] & 15) * 4, datagram[9]
     if protocol == TCP and len(datagram) >= head + 20:
-        ends = datagram[head : head + 4] if has_ports else b""
-        offset = (datagram[head + 12] >> 4) * 4
-        return b"t" + ends + datagram[head + 4 : head + 8] + bytes([datagram[head + 13] & 7]) + datagram[head + offset :]
+        offset, flags = (datagram[head + 12] >> 4) * 4, datagram[head + 13] & 7
+        return b"t%b%c%b" % (datagram[head + (0 if has_ports else 4) : head + 8], flags, datagram[head + offset :])
     if protocol == UDP and len(datagram) >= head + 8:
         return b"u" + (datagram[head : head + 4] if has_ports else b"") + datagram[head + 8 :] + (b"" if len(datagram) > head + 12 else datagram[4:6])
     if protocol == ICMP and len(datagram) >= head + 8:
@@ -174,33 +174,33 @@ class Learnt:
         """Finds for the frames that came from a side those that went out to the other one."""
         new: dict[bytes, tuple[bytes, int] | None] = {}
         old: dict[bytes, tuple[bytes, int] | None] = {}
-        looked: Counter[bytes] = Counter()
-        heard: Counter[bytes] = Counter()
+        looked: dict[bytes, int] = {}
+        heard: dict[bytes, int] = {}
         incoming, turned, second, heard_second = whole_frames(came), 0, 0, 0
         waiting = next(incoming, None)
         for moment, datagram in frames(went):
             while waiting and waiting[0] <= moment:
-                if waiting[0] // SECOND != heard_second:
-                    heard_second = waiting[0] // SECOND
-                    heard.clear()
-                heard[waiting[1][12:20]] += 1
-                if heard[waiting[1][12:20]] > 4 * VOTES:
-                    waiting = next(incoming, None)
-                    continue
-                key = identity(waiting[1], has_ports)
-                known = new[key] if key in new else old.get(key, (waiting[1][12:20], 0))
-                ends = waiting[1][12:20]
-                new[key] = (ends, waiting[0]) if known and known[0] == ends else None
-                if waiting[0] > turned + APART:
-                    old, new, turned = new, {}, waiting[0]
+                came_at, octets = waiting
                 waiting = next(incoming, None)
+                if came_at // SECOND != heard_second:
+                    heard_second = came_at // SECOND
+                    heard.clear()
+                ends = octets[12:20]
+                heard[ends] = count = heard.get(ends, 0) + 1
+                if count > 4 * VOTES:
+                    continue
+                key = identity(octets, has_ports)
+                known = new[key] if key in new else old.get(key, (ends, 0))
+                new[key] = (ends, came_at) if known and known[0] == ends else None
+                if came_at > turned + APART:
+                    old, new, turned = new, {}, came_at
             if moment // SECOND != second:
                 second = moment // SECOND
                 looked.clear()
             ends = datagram[12:20]
-            if looked[ends] >= VOTES or datagram[9] == ICMP and is_error(datagram):
+            if (count := looked.get(ends, 0)) >= VOTES or datagram[9] == ICMP and is_error(datagram):
                 continue
-            looked[ends] += 1
+            looked[ends] = count + 1
             key = identity(datagram, has_ports)
             found = new[key] if key in new else old.get(key)
             if found and moment - found[1] <= APART:
@@ -208,8 +208,7 @@ class Learnt:
 
     def _vote(self, side: int, moment: int, came: bytes, went: bytes) -> None:
         """Takes a frame: its source's alias, and whose alias its destination is."""
-        host, alias, far_alias, far_host = (int.from_bytes(part) for part in (came[:4], went[:4], came[4:], went[4:]))
-        for key in ((side, host, alias), (1 - side, far_host, far_alias)):
+        for key in self._pairs_of(side, came, went):
             self.votes[key] += 1
             span = self.spans.get(key)
             if not span:
@@ -218,6 +217,13 @@ class Learnt:
                 span[1] = moment
             elif moment < span[0]:
                 span[0] = moment
+
+    @staticmethod
+    @lru_cache(maxsize=8192)
+    def _pairs_of(side: int, came: bytes, went: bytes) -> tuple[tuple[int, int, int], tuple[int, int, int]]:
+        """Each host with its alias, by its side: of a frame's source and of its destination."""
+        host, alias, far_alias, far_host = (int.from_bytes(part) for part in (came[:4], went[:4], came[4:], went[4:]))
+        return (side, host, alias), (1 - side, far_host, far_alias)
 
     def changes(self) -> list[tuple[int, int]]:
         """When aliases changed hands, or hosts their alias: each between the last frame with the old one and the first with the new one. Those that were in

@@ -18,7 +18,7 @@ from rendapil.packet import ICMP, Packet, header_sum
 from rendapil.progress import Progress
 from rendapil.readers import Damaged, records, whole_records
 
-FOUR = struct.Struct(">4H")
+ENDS = struct.Struct(">II")
 """The addresses of a datagram."""
 
 LOOKED_AT, JOIN_ROOM = 100_000, 1024
@@ -87,11 +87,10 @@ def frames_of(path: str) -> Iterator[Record]:
 
 def bare(record: Record) -> tuple[bytes, str]:
     """The datagram of a frame without what its link put behind it, and why it can't be compared, if it can't."""
-    datagram = datagram_in(record.link, record.octets)
+    datagram = with_length(datagram_in(record.link, record.octets))
     if not datagram:
         return b"", "no IPv4 (ARP, IPv6)"
-    datagram = with_length(datagram)
-    total = int.from_bytes(datagram[2:4])
+    total = datagram[2] << 8 | datagram[3]
     if total < (datagram[0] & 15) * 4:
         return b"", "a header that contradicts itself"
     if len(datagram) < total:
@@ -102,11 +101,11 @@ def bare(record: Record) -> tuple[bytes, str]:
 def is_left_to_card(datagram: bytes) -> bool:
     """Whether a network card fills in the checksum: what stands there is that of the pseudo header, as offloading leaves it."""
     protocol, head = datagram[9], (datagram[0] & 15) * 4
-    at = {TCP: head + 16, UDP: head + 6}.get(protocol, 0)
-    if not at or len(datagram) < at + 2 or datagram[6] & 0x3F or datagram[7]:
+    at = head + (16 if protocol == TCP else 6)
+    if protocol not in (TCP, UDP) or len(datagram) < at + 2 or datagram[6] & 0x3F or datagram[7]:
         return datagram[10:12] == b"\0\0"
-    start = sum(FOUR.unpack_from(datagram, 12)) + protocol
-    rest = (datagram[at] << 8) + datagram[at + 1] - start
+    source, destination = ENDS.unpack_from(datagram, 12)
+    rest = (datagram[at] << 8) + datagram[at + 1] - source - destination - protocol
     return not rest % 0xFFFF or not (rest - len(datagram) + head) % 0xFFFF or datagram[10:12] == b"\0\0"
 
 
@@ -155,7 +154,10 @@ class Bare:
         """Writes a datagram."""
         self._file.write(record_head(moment, len(datagram), len(datagram)) + datagram)
         self.numbers.append(number)
-        self.first, self.last = self.first or moment, max(self.last, moment)
+        if moment > self.last:
+            self.last = moment
+        if not self.first:
+            self.first = moment
 
     def close(self) -> None:
         """Writes the rest."""
@@ -193,6 +195,7 @@ class Links:
         for file, way in zip(files, (IN, OUT)):
             file.name = path if only in (UNKNOWN, way) else file.name
         told = Progress("compare", f"frames of {os.path.basename(path)} are read")
+        whose: dict[bytes, tuple[bool, bool]] = {}
         for number, record in enumerate(frames, 1):
             told.tell(number)
             if interface and record.interface != interface:
@@ -202,9 +205,11 @@ class Links:
                 self.left_out[f"{why}, on the {SIDES[side]}"] += 1
                 continue
             if number <= LOOKED_AT:
-                own, other = (any(map(one.is_far, (datagram[12:16], datagram[16:20]))) for one in (realm, self.realms[1 - side]))
-                self.of_own[side] += own
-                self.of_other[side] += other and not own
+                if (ends := datagram[12:20]) not in whose:
+                    own, other = (any(map(one.is_far, (ends[:4], ends[4:]))) for one in (realm, self.realms[1 - side]))
+                    whose[ends] = own, other and not own
+                self.of_own[side] += whose[ends][0]
+                self.of_other[side] += whose[ends][1]
             way = only if only != UNKNOWN else realm.way(record, datagram)
             if way == LOCAL:
                 self.left_out[f"neither to nor from the device, on the {SIDES[side]}"] += 1

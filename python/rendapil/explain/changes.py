@@ -8,6 +8,8 @@ from typing import NamedTuple
 from rendapil.bindings import DNS_PORT, LABELS, SIDES, TCP, UDP, Names
 from rendapil.frames import Event, dns_name
 
+DNS = DNS_PORT.to_bytes(2)
+
 ZONES, NAMES = 500, 200
 """The most zones, and names of a zone, that are kept."""
 
@@ -63,8 +65,11 @@ class Changes:
         came = event.datagram
         if event.verdict != "pass" or not event.images or len(came) < 28 or came[9] not in (TCP, UDP):
             return
-        head, went = (came[0] & 15) * 4, event.images[0]
-        if came[6] & 0x3F or came[7] or DNS_PORT not in struct.unpack_from(">HH", came, head) or len(went) < 28:
+        head = (came[0] & 15) * 4
+        if came[head : head + 2] != DNS and came[head + 2 : head + 4] != DNS or came[6] & 0x3F or came[7]:
+            return
+        went = event.images[0]
+        if len(came) < head + 4 or len(went) < 28:
             return
         if came[9] == TCP:
             parts = [one[head + (one[head + 12] >> 4) * 4 : int.from_bytes(one[2:4])] for one in (came, went) if len(one) >= head + 20]

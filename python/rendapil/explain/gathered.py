@@ -288,8 +288,8 @@ class Gathered:
         self.sent[pool] += len(event.sent)
         one, other = left.level(moment), right.level(moment)
         for part in (self.by_time.parts[-1], self.by_number.parts[-1]):
-            part.counts[verdict] = part.counts.get(verdict, 0) + 1
-            most = part.most
+            counts, most = part.counts, part.most
+            counts[verdict] = counts.get(verdict, 0) + 1
             if one > most[0]:
                 most[0] = one
             if other > most[1]:

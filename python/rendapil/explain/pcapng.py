@@ -5,11 +5,14 @@ from typing import IO
 
 from rendapil.bindings import SIDES
 from rendapil.files import Frame
-from rendapil.frames import Event, Verdict, compared, spoken, ways
+from rendapil.frames import Event, Verdict, compared, may_speak, spoken, ways
 from rendapil.payloads.scan import Scan
 
 INTERFACES = [f"{side}-{way}" for side in SIDES for way in ("in", "out")]
 FRAME, OPTION, END = struct.Struct("<7I"), struct.Struct("<HH"), struct.Struct("<II")
+PADDING = b"", bytes(3), bytes(2), bytes(1)
+"""What fills up a field to a multiple of four, by its length."""
+
 COMMENT, NAME, PROGRAM, UNIT = 1, 2, 4, 9
 """Codes of options: a comment, an interface's name, the program that wrote the file, the unit of stamps as a power of ten."""
 
@@ -38,17 +41,22 @@ class Commented:
         octets, text, kept = frame.octets, comment.encode(), len(frame.octets)
         size = kept + -kept % 4 + len(text) + -len(text) % 4 + 40
         head = FRAME.pack(6, size, interface, moment >> 32, moment & 0xFFFFFFFF, kept, max(frame.length, kept))
-        self._file.write(head + octets + bytes(-kept % 4) + OPTION.pack(COMMENT, len(text)) + text + bytes(-len(text) % 4) + END.pack(0, size))
+        said = OPTION.pack(COMMENT, len(text)) + text + PADDING[len(text) & 3] + END.pack(0, size)
+        self._file.write(b"".join((head, octets, PADDING[kept & 3], said)))
 
     def take(self, event: Event) -> None:
         """Writes an event: its frame, and those that were sent for it."""
         if event.is_heartbeat:
             return
-        self._put(2 * event.side, event.moment, event.frame, self._said(event))
-        came = f": it came as {ways(event.datagram)}" if event.sent and event.datagram else ""
+        side = event.side
+        self._put(2 * side, event.moment, event.frame, self._said(event))
+        if not event.sent:
+            return
+        came = f": it came as {ways(event.datagram)}" if event.datagram else ""
+        many = len(event.sent)
         for number, frame in enumerate(event.sent, 1):
-            of = f" ({number} of {len(event.sent)})" if len(event.sent) > 1 else ""
-            self._put(2 * (1 - event.side) + 1, event.moment, frame, f"event {event.number} {SIDES[event.side]}, sent{of}{came}")
+            of = f" ({number} of {many})" if many > 1 else ""
+            self._put(3 - 2 * side, event.moment, frame, f"event {event.number} {SIDES[side]}, sent{of}{came}")
 
     def _said(self, event: Event) -> str:
         """What became of a frame."""
@@ -60,11 +68,17 @@ class Commented:
             return front + (f"{known.means}. What to do: {known.todo}." if known else "refused.")
         if not event.images:
             return front + "nothing went out yet"
-        lines, images = spoken(event.datagram), [line for image in event.images for line in spoken(image)]
-        changed = []
-        if lines != images:
-            for mark, ones, others in (("-", lines, images), ("+", images, lines)):
-                rows = [pieces for pieces in compared(ones, others) if any(piece.changed for piece in pieces)]
-                changed += [f"\n{mark} " + "".join(piece.text for piece in pieces) for pieces in rows[:20]]
+        changed = changed_lines(event) if may_speak(event.datagram) or any(map(may_speak, event.images)) else []
         left = [f"\n! {one.application}: {one.words}" for one in self._scan.latest] if self._scan else []
         return front + f"{ways(event.datagram)} became {ways(event.images[0])}" + "".join(changed + left)
+
+
+def changed_lines(event: Event) -> list[str]:
+    """The lines of a frame that aren't those of the frames that it became."""
+    lines, images = spoken(event.datagram), [line for image in event.images for line in spoken(image)]
+    changed: list[str] = []
+    if lines != images:
+        for mark, ones, others in (("-", lines, images), ("+", images, lines)):
+            rows = [pieces for pieces in compared(ones, others) if any(piece.changed for piece in pieces)]
+            changed += [f"\n{mark} " + "".join(piece.text for piece in pieces) for pieces in rows[:20]]
+    return changed

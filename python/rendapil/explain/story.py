@@ -161,8 +161,8 @@ class Story:
         went = list(islice(sent if count < 16 else limited(sent), count)) if count else []
         if len(went) < count:
             raise ValueError(f"event {number}: {names[3 - side]} has no frame left")
-        images = [datagram_of(one.octets, one.link) for one in went]
-        if not all(images):
+        images = [datagram_of(octets, link) for octets, _, link, _ in went]
+        if b"" in images:
             raise ValueError(f"event {number}: {names[3 - side]} has a frame that no gateway sends")
         datagram = datagram_of(frame.octets, frame.link)
         if went and not datagram:
@@ -172,11 +172,12 @@ class Story:
         for before in self.befores:
             before(event)
         try:
-            self.table.event(side, moment, verdict, event.datagram, images)
+            self.table.event(side, moment, verdict, datagram, images)
         except (TypeError, AttributeError, LookupError):  # an answer that went out isn't one to the frame that came: the files were changed
             self.missed += 1
-        self.held += verdict == "held"
-        if verdict not in ("pass", "held"):
+        if verdict == "held":
+            self.held += 1
+        elif verdict != "pass":
             if event.is_heartbeat:
                 self.heartbeats += 1
             else:

@@ -34,31 +34,41 @@ class Talks:
         self.more = 0
         self.fragments: Counter[str] = Counter()
         self._talks: dict[tuple[bytes, bytes, int, int], Talk] = {}
+        self._found: dict[bytes, Talk] = {}
 
     def take(self, event: Event) -> None:
         """Takes an event: what passed."""
         if event.verdict != "pass" or not event.images:
             return
         came, went = event.datagram, event.images[0]
+        # Frames between the same ends are of the same conversation: most are found by that.
+        ends = bytes((event.side, came[0], came[6], came[7], came[9])) + came[12:24] + went[12:20]
+        talk = self._found.get(ends)
+        if not talk:
+            if not (talk := self._talk(event.side, came, went)):
+                self.more += 1
+                return
+            if len(self._found) >= TALKS:
+                self._found.clear()
+            self._found[ends] = talk
+        talk.frames += 1
+        talk.octets += len(came)
+
+    def _talk(self, side: int, came: bytes, went: bytes) -> Talk | None:
+        """The conversation of a datagram, where there is room for it."""
         head, protocol = (came[0] & 15) * 4, came[9]
         port = 0
         if protocol in (TCP, UDP) and not (came[6] & 0x1F or came[7]):
             _, port = by_port(protocol, int.from_bytes(came[head : head + 2]), int.from_bytes(came[head + 2 : head + 4]))
-        left, right = (
-            (came[12:16] + went[12:16], went[16:20] + came[16:20]) if event.side == 0 else (went[16:20] + came[16:20], came[12:16] + went[12:16])
-        )
+        left, right = (came[12:16] + went[12:16], went[16:20] + came[16:20]) if side == 0 else (went[16:20] + came[16:20], came[12:16] + went[12:16])
         key = (left, right, protocol, port)
         talk = self._talks.get(key)
-        if not talk:
-            if len(self._talks) >= TALKS:
-                self.more += 1
-                return
+        if not talk and len(self._talks) < TALKS:
             known = by_port(protocol, port, 65_535)[0] if port else None
             service = PROTOCOLS.get(protocol, str(protocol)) + (f" {port}" if port else "") + (f", {known.name}" if known else "")
             ends = [(int.from_bytes(one[:4]), int.from_bytes(one[4:])) for one in (left, right)]
             talk = self._talks[key] = Talk(ends[0], ends[1], service)
-        talk.frames += 1
-        talk.octets += len(came)
+        return talk
 
     def rows(self) -> tuple[list[Talk], int]:
         """Those with the most frames, and how many there are."""

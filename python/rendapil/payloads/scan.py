@@ -111,6 +111,7 @@ class Scan:
         self._flows: dict[bytes, Flow] = {}
         self._opened: dict[bytes, None] = {}
         self._blocks: tuple[dict[bytes, set[bytes]], ...] = ({}, {})
+        self._ranked: tuple[list[bytes], ...] = ()  # these blocks by side, those with the most hosts first, as long as no host comes
         self.scanned = 0
 
     def event(self, event: Event) -> None:
@@ -123,7 +124,7 @@ class Scan:
 
     def take(self, number: int, side: int, came: bytes, sent: list[bytes]) -> None:
         """Takes a datagram that went on from a side, and what it became."""
-        is_joined = bool(sent and (came[6] & 0x3F or came[7]))
+        is_joined = bool((came[6] & 0x3F or came[7]) and sent)
         whole = sent[0] if is_joined else came
         protocol, head = whole[9], (whole[0] & 15) * 4
         if protocol == TCP:
@@ -134,11 +135,12 @@ class Scan:
             at = head + 8
         else:
             return
-        payload = whole[at : int.from_bytes(whole[2:4])]
+        payload = whole[at : whole[2] << 8 | whole[3]]
+        if not payload and (protocol != TCP or whole[head + 13] & 18 != 2 or len(self._opened) >= FLOWS):
+            return
         key = came[12:20] + whole[head : head + 4] + whole[9:10]
         if not payload:
-            if protocol == TCP and whole[head + 13] & 18 == 2 and len(self._opened) < FLOWS:
-                self._opened[key] = None
+            self._opened[key] = None
             return
         flow = self._flows.get(key) or self._begun(key, side, payload, sent)
         flow.frames += 1
@@ -190,7 +192,9 @@ class Scan:
         for end in (key[:4], key[4:8]):
             if is_private(int.from_bytes(end)) and (end[:2] in self._blocks[side] or len(self._blocks[side]) < BLOCKS):
                 hosts = self._blocks[side].setdefault(end[:2], set())
-                hosts |= {end} if len(hosts) < BLOCK else set()
+                if end not in hosts and len(hosts) < BLOCK:
+                    hosts.add(end)
+                    self._ranked = ()
         return flow
 
     def _rename(self, flow: Flow, of: Application) -> None:
@@ -212,10 +216,13 @@ class Scan:
     def _aim(self, flow: Flow, key: bytes, side: int, sent: list[bytes]) -> None:
         """Chooses what is looked for in a flow: the blocks of its ends, and those in which most hosts of its realm are."""
         ends = [key[:4], key[4:8], *(image[16:20] for image in sent[:1])]
-        mine, theirs = (sorted(blocks, key=lambda one: -len(blocks[one])) for blocks in (self._blocks[side], self._blocks[1 - side]))
+        if not self._ranked:
+            self._ranked = tuple(sorted(blocks, key=lambda one: -len(blocks[one])) for blocks in self._blocks)
+        mine, theirs = self._ranked[side], self._ranked[1 - side]
         flow.prefixes = list(dict.fromkeys([end[:2] for end in ends] + mine[:4] + theirs[:2]))[:PREFIXES]
         flow.turned = tuple(dict.fromkeys(end[::-1] for end in ends))
-        flow.weight = sum(max(1, *(len(blocks.get(prefix, ())) for blocks in self._blocks)) for prefix in flow.prefixes)
+        left, right = self._blocks
+        flow.weight = sum(max(1, len(left.get(prefix, ())), len(right.get(prefix, ()))) for prefix in flow.prefixes)
 
     @staticmethod
     def _finds(flow: Flow, payload: bytes) -> list[Find]:

@@ -2,7 +2,7 @@
 alias lasts as long as OPERATING says. It doesn't depend on any pool that is given."""
 import heapq
 import struct
-from collections.abc import Callable, Mapping
+from collections.abc import Callable, Mapping, Sequence
 from contextlib import suppress
 from typing import Protocol
 
@@ -11,6 +11,9 @@ from rendapil.packet import ICMP, Packet, is_host
 
 HOUR, KNOWN = 3600 * SECOND, 100_000
 """An hour in nanoseconds, and the most hosts that are followed."""
+
+HOLDS = {UDP: UDP_TIMEOUT, ICMP: PING_HOLD}
+"""How long an alias lasts behind a frame. Of TCP it depends on its flags."""
 
 
 class Seen(Protocol):
@@ -30,12 +33,8 @@ class Need:
 
     def use(self, address: int, moment: int, hold: int) -> None:
         """Notes a use of a host's alias, which then lasts for so long."""
-        while self._queue and self._queue[0][0] <= moment:
-            _, old = heapq.heappop(self._queue)
-            if self._ends[old] > moment:
-                heapq.heappush(self._queue, (self._ends[old], old))
-            else:
-                del self._ends[old]
+        if self._queue and self._queue[0][0] <= moment:
+            self._drop(moment)
         end = self._ends.get(address)
         if end is None:
             if len(self._ends) >= KNOWN:
@@ -46,11 +45,21 @@ class Need:
                 self.most, self.most_at = len(self._ends), moment
         elif end < moment + hold:
             self._ends[address] = moment + hold
-        if moment // HOUR != self._hour:
-            self._hour, self._in_hour = moment // HOUR, set()
-        self._in_hour.add(address)
-        if len(self._in_hour) > self.in_hour:
-            self.in_hour, self.hour_at = len(self._in_hour), self._hour * HOUR
+        if not self._hour <= moment < self._hour + HOUR:
+            self._hour, self._in_hour = moment - moment % HOUR, set()
+        if address not in self._in_hour:
+            self._in_hour.add(address)
+            if len(self._in_hour) > self.in_hour:
+                self.in_hour, self.hour_at = len(self._in_hour), self._hour
+
+    def _drop(self, moment: int) -> None:
+        """Drops the aliases that have ended."""
+        while self._queue and self._queue[0][0] <= moment:
+            _, old = heapq.heappop(self._queue)
+            if self._ends[old] > moment:
+                heapq.heappush(self._queue, (self._ends[old], old))
+            else:
+                del self._ends[old]
 
 
 class Needs:
@@ -59,19 +68,22 @@ class Needs:
     def __init__(self) -> None:
         self.by_side = Need(), Need()
 
-    def take(self, packet: Packet, moment: int, hosts: Mapping[int, Seen], side_of: Callable[[int], int]) -> None:
-        """Takes a datagram that goes to the gateway."""
-        hold = {UDP: UDP_TIMEOUT, ICMP: PING_HOLD}.get(packet.protocol, TCP_HOLD)
-        if packet.protocol == TCP and len(packet.octets) >= packet.head + 14 and packet.octets[packet.head + 13] & (SYN | ACK | FIN | RST) == ACK:
+    def take(self, packet: Packet, moment: int, hosts: Mapping[int, Seen], side_of: Callable[[int], int], by_use: Sequence[tuple[int, int]]) -> None:
+        """Takes a datagram that goes to the gateway. `by_use` are those of its ends that have no static, each with its realm."""
+        protocol, head, octets = packet.protocol, packet.head, packet.octets
+        hold = HOLDS.get(protocol, TCP_HOLD)
+        if protocol == TCP and len(octets) >= head + 14 and octets[head + 13] & (SYN | ACK | FIN | RST) == ACK:
             hold = LONG_TIMEOUT
-        for address in (packet.source, packet.destination):
-            if (host := hosts.get(address)) and not host.contacted_first:
-                self.by_side[side_of(address)].use(address, moment, hold)
-        if packet.protocol == UDP and not packet.is_fragment and len(packet.octets) > packet.head + 20 and packet.number(packet.head) == DNS_PORT:
-            side = side_of(packet.source)
-            with suppress(ValueError, LookupError, struct.error):
-                for octets in named_in(bytes(packet.octets[packet.head + 8 : packet.total])):
-                    address = int.from_bytes(octets)
-                    host = hosts.get(address)
-                    if side < 2 and is_host(address) and side_of(address) < 2 and not (host and host.contacted_first):
-                        self.by_side[side].use(address, moment, NAME_HOLD)
+        for side, address in by_use:
+            self.by_side[side].use(address, moment, hold)
+        if protocol == UDP and not packet.is_fragment and len(octets) > head + 20 and packet.number(head) == DNS_PORT:
+            self._take_names(bytes(octets[head + 8 : packet.total]), side_of(packet.source), moment, hosts, side_of)
+
+    def _take_names(self, message: bytes, side: int, moment: int, hosts: Mapping[int, Seen], side_of: Callable[[int], int]) -> None:
+        """Takes the hosts that an answer of DNS names."""
+        with suppress(ValueError, LookupError, struct.error):
+            for octets in named_in(message):
+                address = int.from_bytes(octets)
+                host = hosts.get(address)
+                if side < 2 and is_host(address) and side_of(address) < 2 and not (host and host.contacted_first):
+                    self.by_side[side].use(address, moment, NAME_HOLD)

@@ -19,22 +19,28 @@ class Oddities:
         self.tunnels: Counter[str] = Counter()
         self._recent: dict[int, int] = {}
         self._ways: dict[bytes, int] = {}
+        self._noted: set[bytes] = set()
 
     def take(self, packet: Packet) -> None:
         """Takes a datagram."""
-        octets, head = packet.octets, packet.head
+        octets, head, protocol = packet.octets, packet.head, packet.protocol
         self.looked_at += 1
-        key = hash((bytes(octets[2:8]), octets[9], bytes(octets[12 : head + 16]), bytes(octets[-8:])))
-        if octets[4:6] != b"\0\0" or packet.protocol == TCP and packet.total > head + 20:
+        if octets[4:6] != b"\0\0" or protocol == TCP and packet.total > head + 20:
+            key = hash(bytes(octets[2:8] + octets[9:10] + octets[12 : head + 16] + octets[-8:]))
             self.doubled += key in self._recent
             self._recent[key] = 1
             if len(self._recent) > 2 * RECENT:
                 for old in list(self._recent)[:RECENT]:
                     del self._recent[old]
-        if name := self._tunnel(packet):
-            self.tunnels[name] += 1
-        elif packet.protocol == TCP and not packet.flags & 0x1FFF and len(octets) >= head + 4:
-            self._note_way(bytes(octets[12:16] + octets[head : head + 2]), bytes(octets[16:20] + octets[head + 2 : head + 4]))
+        if protocol != TCP:
+            if name := self._tunnel(packet):
+                self.tunnels[name] += 1
+        elif not packet.flags & 0x1FFF and len(octets) >= head + 4:
+            ends = bytes(octets[12:20] + octets[head : head + 4])
+            if ends not in self._noted:
+                if len(self._noted) < 2 * PAIRS:
+                    self._noted.add(ends)
+                self._note_way(ends[:4] + ends[8:10], ends[4:8] + ends[10:])
 
     @staticmethod
     def _tunnel(packet: Packet) -> str:

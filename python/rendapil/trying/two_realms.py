@@ -10,12 +10,13 @@ from collections.abc import Iterable, Iterator
 from contextlib import suppress
 from dataclasses import dataclass, field
 from ipaddress import IPv4Address, IPv4Network, collapse_addresses
+from typing import NamedTuple
 
 from rendapil.any_capture import Record, whole_of, why_none
 from rendapil.bindings import CHANGED, DNS_PORT, FTP_PORT, SIDES, SYN, TCP, UDP, Binding, Bindings, named_in
 from rendapil.document import Document, RealmTable, StaticTable
 from rendapil.files import RAW_IP, bare_head, record_head, shown
-from rendapil.packet import ICMP, Packet, is_host
+from rendapil.packet import ICMP, Packet, adjusted, is_host, total_of
 from rendapil.settings_text import pool_table, same_line, static_table
 from rendapil.streams import TRACKED
 from rendapil.trying.needs import Needs
@@ -34,6 +35,9 @@ HOSTS, SAID = 10_000, 1 << 26
 BOTH, NOBODY = 2, 3
 PORTS = struct.Struct(">HH")
 
+KNOWN = 1 << 17
+"""The most addresses, and pairs of hosts, of which it is kept what is known of them."""
+
 
 @dataclass
 class Host:
@@ -44,6 +48,66 @@ class Host:
     contacted_first: bool
     frames: int = 0
     ports: Counter[str] = field(default_factory=Counter)
+
+
+class Pair(NamedTuple):
+    """What holds for all datagrams from one host to another: why they don't cross, if they don't; the hosts of both that are kept; those of these without
+    a static, each with its realm; and the one that is spoken to."""
+
+    why: str
+    hosts: tuple[Host, ...] = ()
+    by_use: tuple[tuple[int, int], ...] = ()
+    receiver: Host | None = None
+
+
+class Way(NamedTuple):
+    """What holds for all frames from one host to another that cross: their side, what the receiver is called there, if that never changes, and the sums
+    of its address and of its alias."""
+
+    side: int
+    alias: bytes
+    old: int
+    new: int
+
+
+PLAIN, WHOLE = b"\x45", (b"\0\0", b"\x40\0")
+"""How a datagram without options begins, and the flags of one that is no fragment."""
+
+
+def plainly_moved(octets: bytes, way: Way, is_mended: bool) -> bytes:
+    """A datagram as the gateway takes it, where that has another destination and nothing else: a whole one of UDP or TCP, of no connection that is
+    followed, and with right sums where wrong ones are mended. Most frames are such ones. Nothing for all others."""
+    protocol, size = octets[9], len(octets)
+    if octets[:1] != PLAIN or octets[6:8] not in WHOLE or size != octets[2] << 8 | octets[3]:
+        return b""
+    if protocol == TCP and size >= 40:
+        at = 36
+        port, far_port = PORTS.unpack_from(octets, 20)
+        if port in TRACKED or far_port in TRACKED:
+            return b""
+    elif protocol == UDP and size >= 28 and octets[26:28] != b"\0\0":
+        at = 26
+    else:
+        return b""
+    of_header, of_payload = octets[10] << 8 | octets[11], octets[at] << 8 | octets[at + 1]
+    if is_mended:
+        # Both sums are right where the header's octets and the others add up to nothing, with what the pseudo header has. 0xFFFF is another 0.
+        pseudo = (way.old + int.from_bytes(octets[12:16]) + protocol + size - 20) % 0xFFFF
+        whole = int.from_bytes(octets) << 8 * (size & 1)
+        if of_header == 0xFFFF or int.from_bytes(octets[:20]) % 0xFFFF or (whole + pseudo) % 0xFFFF or of_payload == 0xFFFF and protocol == TCP:
+            return b""
+    header_sum, payload_sum = adjusted(of_header, way.old, way.new), adjusted(of_payload, way.old, way.new)
+    if protocol == UDP:
+        payload_sum = payload_sum or 0xFFFF
+    return b"%b%b%b%b%b%b%b" % (
+        octets[:10],
+        header_sum.to_bytes(2),
+        octets[12:16],
+        way.alias,
+        octets[20:at],
+        payload_sum.to_bytes(2),
+        octets[at + 2 :],
+    )
 
 
 def block_of(text: str) -> IPv4Network:
@@ -80,6 +144,7 @@ class TwoRealms:
         self.mended = self.filled = self.lines = self.crossed = 0
         self.needs, self.oddities = Needs(), Oddities()
         self._sides: dict[int, int] = {}
+        self._pairs: dict[bytes, Pair] = {}
         self._spoken: dict[tuple[int, int, int, int], list[Spoken | None]] = {}
         self._said = 0
         self._bound: dict[tuple[int, int], Binding] = {}
@@ -97,7 +162,7 @@ class TwoRealms:
                 if any(whole in block for block in self.same)
                 else int(not any(whole in block for block in self.left))
             )
-            if len(self._sides) < 1 << 17:
+            if len(self._sides) < KNOWN:
                 self._sides[address] = side
         return side
 
@@ -121,12 +186,16 @@ class TwoRealms:
                 continue
             packet = Packet(datagram)
             self.oddities.take(packet)
-            if why := self._stays(packet) or self._note(packet):
-                self.left_out[why] += 1
+            is_error = packet.protocol == ICMP and packet.is_icmp_error  # it tells of other hosts too, and each time of other ones
+            pair = not is_error and self._pairs.get(datagram[12:20]) or self._pair(packet, is_error)
+            if pair.why:
+                self.left_out[pair.why] += 1
                 continue
+            for host in pair.hosts:
+                host.frames += 1
             self.crossed += 1
-            self.needs.take(packet, frame.moment, self.hosts, self.side_of)
-            self._hear(packet)
+            self.needs.take(packet, frame.moment, self.hosts, self.side_of, pair.by_use)
+            self._hear(packet, pair.receiver)
         if is_all:
             self.settle()
 
@@ -136,28 +205,42 @@ class TwoRealms:
             self._choose_pools()
             self._name()
 
+    def _pair(self, packet: Packet, is_error: bool) -> Pair:
+        """What holds for all datagrams between the ends of this one, of which it is the first, or is an ICMP error."""
+        if why := self._stays(packet) or self._note(packet):
+            pair = Pair(why)
+        else:
+            both = packet.source, packet.destination
+            hosts = [(one, self.hosts[one]) for one in both if one in self.hosts]
+            by_use = ((host.side, address) for address, host in hosts if not host.contacted_first)
+            pair = Pair("", tuple(host for _, host in hosts), tuple(by_use), self.hosts.get(packet.destination))
+        if not is_error and len(self._pairs) < KNOWN:
+            self._pairs[bytes(packet.octets[12:20])] = pair
+        return pair
+
     def _note(self, packet: Packet) -> str:
         """Notes both hosts of a datagram, and those that an ICMP error tells of. Says why there is no room for them, if so."""
         ends = [(packet.source, False), (packet.destination, True)]
+        told: list[tuple[int, bool]] = []
         if packet.is_icmp_error:
-            ends += [(address, True) for at in (20, 24) if is_host(address := packet.number(packet.head + at, 4))]
-        ends = [end for end in ends if self.side_of(end[0]) != BOTH]
-        if len(self.hosts) > HOSTS - 4 and any(address not in self.hosts for address, _ in ends):
+            told = [(address, True) for at in (20, 24) if is_host(address := packet.number(packet.head + at, 4))]
+        ends, told = ([end for end in some if self.side_of(end[0]) != BOTH] for some in (ends, told))
+        if len(self.hosts) > HOSTS - 4 and any(address not in self.hosts for address, _ in ends + told):
             return f"of hosts after the first {HOSTS:,}"
-        for address, is_spoken_to in ends:
-            host = self.hosts.get(address)
-            if not host:
-                host = self.hosts[address] = Host(self.side_of(address), 0, is_spoken_to)
-            host.frames += 1
+        for address, is_spoken_to in ends + told:
+            if address not in self.hosts:
+                self.hosts[address] = Host(self.side_of(address), 0, is_spoken_to)
+        for address, _ in told:
+            self.hosts[address].frames += 1
         return ""
 
-    def _hear(self, packet: Packet) -> None:
+    def _hear(self, packet: Packet, receiver: Host | None) -> None:
         """Notes the server of a conversation, and what is said on FTP control connections and in DNS over TCP."""
         if packet.protocol not in (TCP, UDP) or packet.is_fragment or len(packet.octets) < packet.head + 8:
             return
         port, far_port = PORTS.unpack_from(packet.octets, packet.head)
-        if (host := self.hosts.get(packet.destination)) and far_port < port and len(host.ports) < 64:
-            host.ports[f"{far_port}/{'tcp' if packet.protocol == TCP else 'udp'}"] += 1
+        if receiver and far_port < port and len(receiver.ports) < 64:
+            receiver.ports[f"{far_port}/{'tcp' if packet.protocol == TCP else 'udp'}"] += 1
         if packet.protocol != TCP or not (port in TRACKED or far_port in TRACKED) or min(len(packet.octets), packet.total) < packet.head + 20:
             return
         segment = packet.octets[packet.head : packet.total]
@@ -234,31 +317,46 @@ class TwoRealms:
         """The frames as the gateway takes them, each with its side. Of two frames with one stamp it takes the left one first, so a left one that stands
         behind gets a later stamp."""
         latest, before = 0, 0
+        ways: dict[bytes, Way | None] = {}
         for frame in frames:
             datagram, length = whole_of(frame.link, frame.octets)
-            packet = Packet(datagram) if datagram else None
-            if (
-                not packet
-                or self._stays(packet)
-                or len(self.hosts) > HOSTS - 4
-                and not all(one in self.hosts or self.side_of(one) == BOTH for one in (packet.source, packet.destination))
-            ):
+            if not datagram:
                 continue
-            side = 1 - self.side_of(packet.destination) if self.side_of(packet.source) == BOTH else self.side_of(packet.source)
-            latest, before = max(frame.moment, latest + (side < before)), side
-            if self.is_filled and not packet.is_whole and fill(packet):
-                self.filled += 1
-            elif self.is_mended and packet.is_whole:
-                self.mended += packet.mend()
-            source = self._alias(packet.source, latest, True)
-            self._move(packet, latest)
-            if packet.is_icmp_error:
-                self._move_inner(packet, latest)
-            receiver = packet.destination
-            packet.put(16, (self._alias(receiver, latest) or receiver).to_bytes(4))
-            if self.pool and source:
-                self._follow(side, latest, packet, source, receiver)
-            yield side, Record(latest, RAW_IP, bytes(packet.octets), max(length, len(packet.octets)))
+            ends = datagram[12:20]
+            way = ways[ends] if ends in ways else self._way(Packet(datagram))
+            if len(ways) < KNOWN:
+                ways[ends] = way
+            if way:
+                latest, before = max(frame.moment, latest + (way.side < before)), way.side
+                octets = way.alias and plainly_moved(datagram, way, self.is_mended) or self._moved(datagram, way.side, latest)
+                yield way.side, Record(latest, RAW_IP, octets, max(length, len(octets)))
+
+    def _way(self, packet: Packet) -> Way | None:
+        """What holds for all frames between the ends of this one, if they cross."""
+        ends = one, other = packet.source, packet.destination
+        is_full = len(self.hosts) > HOSTS - 4
+        if self._stays(packet) or is_full and not all(end in self.hosts or self.side_of(end) == BOTH for end in ends):
+            return None
+        side = 1 - self.side_of(other) if self.side_of(one) == BOTH else self.side_of(one)
+        alias = b"" if self.pool else (self._alias(other, 0) or other).to_bytes(4)
+        return Way(side, alias, total_of(other.to_bytes(4)), total_of(alias))
+
+    def _moved(self, datagram: bytes, side: int, moment: int) -> bytes:
+        """A datagram as the gateway takes it, whatever it is."""
+        packet = Packet(datagram)
+        if self.is_filled and not packet.is_whole and fill(packet):
+            self.filled += 1
+        elif self.is_mended and packet.is_whole:
+            self.mended += packet.mend()
+        source = self._alias(packet.source, moment, True)
+        self._move(packet, moment)
+        if packet.is_icmp_error:
+            self._move_inner(packet, moment)
+        receiver = packet.destination
+        packet.put(16, (self._alias(receiver, moment) or receiver).to_bytes(4))
+        if self.pool and source:
+            self._follow(side, moment, packet, source, receiver)
+        return bytes(packet.octets)
 
     def _follow(self, side: int, moment: int, packet: Packet, source: int, receiver: int) -> None:
         """Tells the table what the gateway will make of a datagram. What a DNS message names gets the least free aliases, as in one that is cut."""
@@ -341,12 +439,12 @@ class TwoRealms:
 def write_captures(paths: list[str], frames: Iterable[tuple[int, Record]]) -> list[int]:
     """Writes the frames of both sides as captures of bare datagrams with nanoseconds, each in the order of its stamps. Says how many they are."""
     counts = [0, 0]
-    files = [open(path, "wb") for path in paths]
+    files = [open(path, "wb", 1 << 18) for path in paths]
     try:
         for file in files:
             file.write(bare_head())
-        for side, record in frames:
-            files[side].write(record_head(record.moment, len(record.octets), record.length) + record.octets)
+        for side, (moment, _, octets, length, *_) in frames:
+            files[side].write(record_head(moment, len(octets), length) + octets)
             counts[side] += 1
     finally:
         for file in files:
