@@ -29,8 +29,9 @@ class Link:
     def __init__(self) -> None:
         self.number = 0
 
-    def frame(self, protocol: int, source: bytes, destination: bytes, payload: bytes, place: int) -> bytes:
+    def frame(self, protocol: int, ends: tuple[bytes, bytes], payload: bytes, place: int) -> bytes:
         """A record of a datagram whose payload has 0 where its checksum belongs."""
+        source, destination = ends
         self.number += 1
         total = sum_of(payload) + sum_of(source + destination) + protocol + len(payload)
         payload = payload[:place] + ((0xFFFF - total % 0xFFFF) or 0xFFFF).to_bytes(2) + payload[place + 2 :]
@@ -42,7 +43,7 @@ class Link:
 
     def udp(self, ends: tuple[bytes, bytes], ports: tuple[int, int], octets: bytes) -> bytes:
         """A datagram of UDP."""
-        return self.frame(17, *ends, struct.pack(">4H", *ports, 8 + len(octets), 0) + octets, 6)
+        return self.frame(17, ends, struct.pack(">4H", *ports, 8 + len(octets), 0) + octets, 6)
 
 
 class Dialogue:
@@ -53,12 +54,10 @@ class Dialogue:
 
     def says(self, side: int, flags: int, octets: bytes = b"") -> bytes:
         """A segment of the client (0) or the server (1)."""
-        turn = -1 if side else 1
+        ends, ports = (self._ends[side], self._ends[1 - side]), (self._ports[side], self._ports[1 - side])
         numbers = self._next[side], self._next[1 - side] if flags & 16 else 0
         self._next[side] += len(octets) + bool(flags & 3)
-        return self._link.frame(
-            6, *self._ends[::turn], struct.pack(">HHIIBBHHH", *self._ports[::turn], *numbers, 0x50, flags, 8192, 0, 0) + octets, 16
-        )
+        return self._link.frame(6, ends, struct.pack(">HHIIBBHHH", *ports, *numbers, 0x50, flags, 8192, 0, 0) + octets, 16)
 
     def opens(self) -> Iterator[bytes]:
         """Its three first segments."""
