@@ -8,6 +8,7 @@ tools/seconds.py --limit [MINUTES]: tells how many processor minutes what was wr
 are given, or where some crate was not proved in that run."""
 import os
 import re
+import signal
 import subprocess
 import sys
 import time
@@ -36,8 +37,8 @@ def kind_of(words: list[str], folder: str) -> str:
     return "proof" if Path(folder).parent.name == "crates" else "edits"
 
 
-def readings() -> dict[tuple[str, str], tuple[str, str, float]]:
-    """Of each process of rattle: its number and start, and the crate, the kind and the seconds so far."""
+def readings(session: int) -> dict[tuple[str, str], tuple[str, str, float]]:
+    """Of each process of rattle in a session: its number and start, and the crate, the kind and the seconds so far."""
     found = {}
     for entry in Path("/proc").iterdir():
         if not entry.name.isdigit():
@@ -50,6 +51,8 @@ def readings() -> dict[tuple[str, str], tuple[str, str, float]]:
             crate = words[words.index("--crate-name") + 1]
             folder = os.readlink(entry / "cwd")
         except (OSError, ValueError, IndexError):
+            continue
+        if int(fields[3]) != session:  # of another run on this machine
             continue
         found[entry.name, fields[19]] = (crate, kind_of(words, folder), (int(fields[11]) + int(fields[12])) / TICK)
     return found
@@ -111,11 +114,15 @@ def table() -> str:
 
 def measured(command: list[str]) -> tuple[int, dict[tuple[str, str], float]]:
     """The status of a command, and the seconds of each crate and kind while it ran."""
-    process = subprocess.Popen(command, cwd=TOP)
+    process = subprocess.Popen(command, cwd=TOP, start_new_session=True)
     last: dict[tuple[str, str], tuple[str, str, float]] = {}
-    while process.poll() is None:
-        last.update(readings())
-        time.sleep(0.25)
+    try:
+        while process.poll() is None:
+            last.update(readings(process.pid))
+            time.sleep(0.25)
+    except KeyboardInterrupt:  # which a session of its own doesn't get
+        os.killpg(process.pid, signal.SIGINT)
+        raise
     seconds: dict[tuple[str, str], float] = {}
     for crate, kind, spent in last.values():
         seconds[crate, kind] = seconds.get((crate, kind), 0) + spent
