@@ -14,6 +14,7 @@ from testing import CASE, INPUTS, OUTPUTS, PROGRAM, RIGHT, datagram
 
 from rendapil import bindings  # noqa: I001
 from rendapil.document import Document, RealmTable, StaticTable, document_in
+from rendapil.files import Capture
 from rendapil.bindings import ACK, FIN, SECOND, SIDES, SYN, TCP, UDP, Binding, Bindings
 from dialogues import Dialogues
 from datagrams import fragments, quad, tcp, udp
@@ -71,12 +72,9 @@ class Told(NamedTuple):
 
 def datagrams_in(path: str) -> Iterator[bytes]:
     """The datagrams of a capture."""
-    with open(path, "rb") as file:
-        head = file.read(24)
-        order = "<" if head[0] in (0xD4, 0x4D) else ">"
-        link = struct.unpack(order + "I", head[20:])[0]
-        while record := file.read(16):
-            yield bindings.datagram_of(file.read(struct.unpack_from(order + "I", record, 8)[0]), link)
+    with Capture(path) as capture:
+        for frame in capture.frames():
+            yield bindings.datagram_of(frame.octets, frame.link)
 
 
 def events_of(left: str, right: str, left_out: str, right_out: str, report: str) -> Iterator[Told]:

@@ -25,7 +25,7 @@ from testing import CASE, CHECK, EXPLAIN, INPUTS, LIVE, MERGER, OUTPUTS, PROGRAM
 
 from rendapil import bindings, frames
 from rendapil.document import document_in
-from rendapil.files import Frame
+from rendapil.files import Record
 from rendapil.explain import command as explain, gathered as collected, story as stories
 
 HAS_JINJA = bool(find_spec("jinja2")) or said("/usr/bin/python3", "-I", "-c", "import jinja2, tomllib")[0] == 0
@@ -267,7 +267,7 @@ class Explain(InRoom):
     def test_many_hosts_are_summed(self) -> None:
         """Of more hosts than are kept the rarest are summed, so that all counts stay right; so are the destinations of one."""
         refusals = stories.Refusals()
-        frame = Frame(b"x", 1, 101, 1)
+        frame = Record(1, 101, b"x", 1)
 
         def refused(number: int, host: int, to: int) -> None:
             one = datagram(f"10.1.{host >> 8}.{host & 255} > 10.2.0.{to}", 17, b"")

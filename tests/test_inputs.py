@@ -10,7 +10,8 @@ from pathlib import Path
 
 from testing import INPUTS, OUTPUTS, PROGRAM, TOP, said
 
-from rendapil.readers import Damaged, records, whole_records
+from rendapil.files import Damaged
+from rendapil.readers import records, whole_records
 
 RENDAPIL = f"{TOP}/rendapil"
 
@@ -21,8 +22,8 @@ def block(kind: int, body: bytes, order: str = "<") -> bytes:
     return struct.pack(order + "II", kind, len(body) + 12) + body + struct.pack(order + "I", len(body) + 12)
 
 
-def pcapng(path: str, order: str = "<", resolution: int = 9, ahead: int = 0) -> bytes:
-    """A capture as pcapng: in this byte order, with stamps of ten to minus this, which lack so many seconds."""
+def pcapng(path: str, order: str = "<", resolution: int = 9, ahead: int = 0, is_old: bool = False) -> bytes:
+    """A capture as pcapng: in this byte order, with stamps of ten to minus this, which lack so many seconds. `is_old` makes packets of the old form."""
     said = struct.pack(order + "HHB3x", 9, 1, resolution) + struct.pack(order + "HHq", 14, 8, ahead) + bytes(4)
     link = next(records(path)).link
     parts = [
@@ -32,8 +33,9 @@ def pcapng(path: str, order: str = "<", resolution: int = 9, ahead: int = 0) -> 
     parts.append(block(0x0BAD, b"a block that nobody knows", order))
     for one in records(path):
         stamp = (one.moment - ahead * 10**9) // 10 ** (9 - resolution)
-        head = struct.pack(order + "5I", 0, stamp >> 32, stamp & 0xFFFFFFFF, len(one.octets), one.length)
-        parts.append(block(6, head + one.octets + bytes(-len(one.octets) % 4) + struct.pack(order + "HHIHH", 2, 4, 1, 0, 0), order))
+        of = struct.pack(order + "HH", 0, 7) if is_old else struct.pack(order + "I", 0)
+        head = of + struct.pack(order + "4I", stamp >> 32, stamp & 0xFFFFFFFF, len(one.octets), one.length)
+        parts.append(block(2 if is_old else 6, head + one.octets + bytes(-len(one.octets) % 4) + struct.pack(order + "HHIHH", 2, 4, 1, 0, 0), order))
     return b"".join(parts)
 
 
@@ -133,7 +135,7 @@ class Inputs(unittest.TestCase):
             (bytes(wrong), "a block says that it has 1073741824 bytes"),
             (gzip.compress(Path(INPUTS[1]).read_bytes())[:-20], "what gzip packed is damaged"),
             (gzip.compress(b"no capture at all"), "is no capture"),
-            (whole + block(3, bytes(40)), "behind frame 27: it has packets in blocks of an old form, or without stamps"),
+            (whole + block(3, bytes(40)), "behind frame 27: it has packets without stamps"),
         ):
             with self.subTest(why):
                 status, text = self.run_with(self.put("left", octets))
@@ -157,6 +159,9 @@ class Inputs(unittest.TestCase):
         if shutil.which("editcap"):
             subprocess.run(["editcap", "-F", "pcapng", INPUTS[1], f"{self.room}/ng"], check=True)
             self.assertEqual([one[:4] for one in records(f"{self.room}/ng")], [one[:4] for one in records(INPUTS[1])])
+        for order in "<>":
+            self.put("old", pcapng(INPUTS[1], order, is_old=True))
+            self.assertEqual([one[:4] for one in records(f"{self.room}/old")], [one[:4] for one in records(INPUTS[1])])
         left = self.put("left", pcapng(INPUTS[1]))
         self.assertEqual([one[:4] for one in records(left)], [one[:4] for one in records(INPUTS[1])])
         whole = Path(left).read_bytes()

@@ -14,7 +14,7 @@ from importlib.util import find_spec
 
 from testing import PROGRAM, TOP, TRY, capture, said
 
-from rendapil.any_capture import records
+from rendapil.trying.reading import records
 from datagrams import fragments, icmp, tcp, udp  # testing says where it is
 from rendapil.explain.pcapng import block
 
@@ -24,7 +24,7 @@ REALMS = """
 import hashlib, sys
 from ipaddress import IPv4Network
 sys.path.insert(0, sys.argv[1])
-from rendapil.any_capture import records
+from rendapil.trying.reading import records
 from rendapil.trying.two_realms import TwoRealms, write_captures
 sides = [f"{sys.argv[2]}/{name}" for name in ("new-left", "new-right")]
 for path in sys.argv[3:]:
@@ -370,11 +370,14 @@ class Try(InRoom):
         whole = pcap(101, login())
         long = whole[:32] + b"\xff\xff\xff\xff" + whole[36:]
         for octets, line in (
-            (b"", "is no capture that can be read: No data could be read!"),
-            (b"\x1b]0;owned\x07" * 9, "is no capture that can be read: Not a supported capture file"),
-            (whole[:20], "is no capture that can be read: Not a supported capture file"),
+            (b"", "is no capture\n"),
+            (b"\x1b]0;owned\x07" * 9, "is no capture\n"),
+            (whole[:20], "is no capture that can be read: it ends within its head\n"),
             (pcap(101, []), "has no IPv4 between two hosts"),
-            (gzip.compress(whole)[:10] + b"\xff" * 40, "is no capture that can be read: it is damaged: Error -3 while decompressing data"),
+            (
+                gzip.compress(whole)[:10] + b"\xff" * 40,
+                "is no capture that can be read: what gzip packed is damaged: Error -3 while decompressing data",
+            ),
             (pcap(101, [udp("10.1.0.5", 1, "10.1.0.5", 2, b"x")]), "has frames of one host alone"),
             (b"\x28\xb5\x2f\xfd" + bytes(40), "is packed by zstd. Unpack it: zstd -dc"),
             (b"\xfd7zXZ\0" + bytes(40), "is packed by xz. Unpack it: xz -dc"),
@@ -396,7 +399,7 @@ class Try(InRoom):
             "--program",
             PROGRAM,
         )
-        self.assertIn("no frame of", text)
+        self.assertIn("is no capture that can be read: a record says that it has 4294967295 bytes\n", text)
         self.assertNotIn("Traceback", text)
         self.assertEqual(said(*TRY, f"{self.room}/absent"), (1, f"rendapil try: {self.room}/absent: No such file or directory\n"))
         self.assertEqual(said(*TRY, self.room), (1, f"rendapil try: {self.room}: Is a directory\n"))

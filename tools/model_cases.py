@@ -18,7 +18,7 @@ from typing import NamedTuple
 sys.path.insert(0, str(Path(__file__).resolve().parent.parent / "python"))
 from rendapil.bindings import SIDES, pool_of  # noqa: E402
 from rendapil.document import Document, document_in  # noqa: E402
-from rendapil.files import ETHERNET, Capture, Frame  # noqa: E402
+from rendapil.files import ETHERNET, Capture, Record  # noqa: E402
 
 WIDTH = 150  # columns of a line
 PIECE = 56  # octets of a line
@@ -29,16 +29,16 @@ class Event(NamedTuple):
 
     side: int
     moment: int
-    frame: Frame
+    frame: Record
 
 
-def frames_in(path: Path) -> list[Frame]:
+def frames_in(path: Path) -> list[Record]:
     """The frames of a capture."""
     with Capture(str(path)) as capture:
         return list(capture.frames())
 
 
-def events(left: list[Frame], right: list[Frame]) -> Iterator[Event]:
+def events(left: list[Record], right: list[Record]) -> Iterator[Event]:
     """The frames of both captures in the order in which the gateway takes them."""
     clock = 0
     for side, frame in heapq.merge([(0, one) for one in left], [(1, one) for one in right], key=lambda one: one[1].moment):

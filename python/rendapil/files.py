@@ -6,7 +6,7 @@ import sys
 import traceback
 from collections.abc import Iterator
 from io import TextIOWrapper
-from typing import BinaryIO, NamedTuple, Self
+from typing import BinaryIO, NamedTuple, Protocol, Self
 
 ETHERNET, RAW_IP = 1, 101
 FORMS = {b"\xd4\xc3\xb2\xa1": ("<", 1000), b"\x4d\x3c\xb2\xa1": ("<", 1), b"\xa1\xb2\xc3\xd4": (">", 1000), b"\xa1\xb2\x3c\x4d": (">", 1)}
@@ -71,13 +71,60 @@ def record_head(moment: int, size: int, length: int) -> bytes:
     return RECORD_HEAD.pack(*divmod(moment, 1_000_000_000), size, length)
 
 
-class Frame(NamedTuple):
-    """A record of a capture: its bytes, its stamp in nanoseconds, the capture's link, and the length that the frame had on the wire."""
+IN, OUT, LOCAL, UNKNOWN = 0, 1, 2, 3
+"""The way of a frame on a link: to the device, from the device, neither, or nothing that shows it."""
 
-    octets: bytes
+
+class Record(NamedTuple):
+    """A frame of a capture: its stamp in nanoseconds, its link, its bytes and the length that it had on the wire. Its interface, and its way, where the
+    capture says it."""
+
     moment: int
     link: int
+    octets: bytes
     length: int
+    interface: str = ""
+    way: int = UNKNOWN
+
+
+class Damaged(Exception):
+    """What is wrong with a capture behind its last whole frame."""
+
+
+class TooLong(Damaged):
+    """A record that says it has more bytes than any has."""
+
+    def __init__(self, size: int) -> None:
+        super().__init__(f"a record says that it has {size} bytes")
+        self.size = size
+
+
+class NoStamp(Damaged):
+    """A record whose stamp is none."""
+
+
+class Readable(Protocol):
+    """What gives so many bytes, or fewer at its end."""
+
+    def read(self, size: int, /) -> bytes:
+        """So many bytes."""
+
+
+def pcap_records(file: Readable, form: tuple[str, int], link: int, fractions: int = 1 << 32) -> Iterator[Record]:
+    """The records of a pcap file behind its head, by the form of FORMS. A stamp whose fraction is so many units is none."""
+    order, unit = form
+    heads, read, make = struct.Struct(order + "4I"), file.read, Record._make
+    while len(head := read(16)) == 16:
+        seconds, fraction, size, length = heads.unpack(head)
+        if size > RECORD:
+            raise TooLong(size)
+        if len(octets := read(size)) < size:
+            raise Damaged("it ends within a record")
+        if fraction >= fractions:
+            raise NoStamp("a record has a stamp that is none")
+        yield make((seconds * 1_000_000_000 + fraction * unit, link, octets, length, "", UNKNOWN))
+    if head:
+        raise Damaged("it ends within the head of a record")
 
 
 class Line(NamedTuple):
@@ -99,8 +146,8 @@ class Capture:
 
         self._file = opened(path)
         head = self._file.read(24)
-        self._order, self._unit = FORMS.get(head[:4], ("", 0))
-        self.link: int = struct.unpack(self._order + "I", head[20:])[0] if len(head) == 24 and self._order else -1
+        self._form = FORMS.get(head[:4], ("", 0))
+        self.link: int = struct.unpack(self._form[0] + "I", head[20:])[0] if len(head) == 24 and self._form[1] else -1
         if self.link not in (ETHERNET, RAW_IP):
             self._file.close()
             what = "is empty, and" if not head else f"has link type {self.link}, and" if self.link >= 0 else ""
@@ -112,17 +159,14 @@ class Capture:
     def __exit__(self, *_: object) -> None:
         self._file.close()
 
-    def frames(self) -> Iterator[Frame]:
+    def frames(self) -> Iterator[Record]:
         """The frames, up to the last one that is whole."""
-        read, link, unit, heads, make = self._file.read, self.link, self._unit, struct.Struct(self._order + "4I"), Frame._make
-        while len(record := read(16)) == 16:
-            seconds, fraction, size, length = heads.unpack(record)
-            if size > RECORD:
-                raise ValueError(f"{shown(self.path)} has a record of {size} bytes: none may have more than {RECORD}")
-            octets = read(size)
-            if len(octets) < size:
-                return
-            yield make((octets, seconds * 1_000_000_000 + fraction * unit, link, length))
+        try:
+            yield from pcap_records(self._file, self._form, self.link)
+        except TooLong as error:
+            raise ValueError(f"{shown(self.path)} has a record of {error.size} bytes: none may have more than {RECORD}") from None
+        except Damaged:
+            return
 
 
 def line_of(text: bytes) -> Line | None:

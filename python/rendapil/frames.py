@@ -8,7 +8,7 @@ from functools import lru_cache
 from typing import NamedTuple
 
 from rendapil.bindings import DNS_PORT, FTP_PORT, LABELS, SECOND, TCP, UDP, Names
-from rendapil.files import Frame, plain
+from rendapil.files import Record, plain
 from rendapil.places import TOP
 
 PROTOCOLS = {1: "ICMP", TCP: "TCP", UDP: "UDP"}
@@ -27,9 +27,9 @@ class Event:
     side: int
     moment: int
     verdict: str
-    frame: Frame
+    frame: Record
     datagram: bytes
-    sent: list[Frame]
+    sent: list[Record]
     images: list[bytes]
     is_heartbeat: bool = False
 

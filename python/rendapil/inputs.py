@@ -11,9 +11,9 @@ from typing import IO, BinaryIO, cast
 
 from rendapil.any_capture import IPV4, TAGS
 from rendapil.bindings import SECOND
-from rendapil.files import ETHERNET, FORMS, HEAD, MOMENTS, RAW_IP, RECORD, RECORD_HEAD, shown
+from rendapil.files import ETHERNET, FORMS, HEAD, MOMENTS, RAW_IP, RECORD, RECORD_HEAD, Damaged, shown
 from rendapil.places import TOP
-from rendapil.readers import PACKED, PCAPNG, Damaged, records, whole_records
+from rendapil.readers import PACKED, PCAPNG, records, whole_records
 from rendapil.sayings import Fault
 
 UNTAG = "RENDAPIL_UNTAG"

@@ -6,15 +6,18 @@ from collections.abc import Iterator
 from io import BufferedReader, FileIO
 from typing import NamedTuple
 
-from rendapil.any_capture import IN, LOCAL, MOST, OUT, SLL, SLL2, UNKNOWN, Record
+from rendapil.any_capture import SLL, SLL2
 from rendapil.bindings import SECOND
-from rendapil.files import FORMS, RECORD, shown
+from rendapil.files import FORMS, IN, LOCAL, OUT, UNKNOWN, Damaged, Record, pcap_records, shown
 
 SECTION, INTERFACE, OLD_PACKET, SIMPLE_PACKET, PACKET = 0x0A0D0D0A, 1, 2, 3, 6
 """Types of blocks of pcapng."""
 
 PCAPNG, PACKED = b"\x0a\x0d\x0d\x0a", b"\x1f\x8b"
 """The first bytes of a pcapng file, and of one that is packed by gzip."""
+
+MOST = 1 << 24
+"""The most bytes of a block: those of a packed file may be a million times as many as the file has."""
 
 CHUNK = 1 << 20
 """How many bytes are read at once."""
@@ -23,8 +26,8 @@ END, NAME, FLAGS, UNIT, AHEAD = 0, 2, 2, 9, 14
 """Options: the last one; an interface's name and a packet's flags; the unit of an interface's stamps, and the seconds that they lack."""
 
 
-class Damaged(Exception):
-    """What is wrong with a capture behind its last whole frame."""
+class NoCapture(ValueError):
+    """A file that is no capture."""
 
 
 def opened(path: str) -> BufferedReader | gzip.GzipFile:
@@ -51,7 +54,7 @@ def whole_records(path: str) -> Iterator[Record]:
             elif front in FORMS:
                 yield from of_pcap(file)
             else:
-                raise ValueError(f"{shown(path)} is no capture")
+                raise NoCapture(f"{shown(path)} is no capture")
         except (EOFError, OSError, zlib.error) as error:
             raise Damaged(f"what gzip packed is damaged: {error}") from None
 
@@ -64,18 +67,12 @@ def of_pcap(file: Source) -> Iterator[Record]:
     head = file.read(24)
     if len(head) < 24:
         raise Damaged("it ends within its head")
-    order, unit = FORMS[head[:4]]
-    link, heads, read, make = struct.unpack(order + "I", head[20:])[0] & 0xFFFF, struct.Struct(order + "4I"), file.read, Record._make
-    while len(record := read(16)) == 16:
-        seconds, fraction, size, length = heads.unpack(record)
-        if size > RECORD:
-            raise Damaged(f"a record says that it has {size} bytes")
-        if len(octets := read(size)) < size:
-            raise Damaged("it ends within a record")
-        interface, way = cooked(link, octets) if link in (SLL, SLL2) else ("", UNKNOWN)
-        yield make((seconds * SECOND + fraction * unit, link, octets, length, interface, way))
-    if record:
-        raise Damaged("it ends within the head of a record")
+    form = FORMS[head[:4]]
+    link = struct.unpack(form[0] + "I", head[20:])[0] & 0xFFFF
+    records = pcap_records(file, form, link)
+    if link not in (SLL, SLL2):
+        return records
+    return (one._replace(interface=interface, way=way) for one in records for interface, way in [cooked(link, one.octets)])
 
 
 def cooked(link: int, octets: bytes) -> tuple[str, int]:
@@ -159,8 +156,10 @@ def packets(file: Source) -> Iterator[tuple[Interface, int, bytes, int, int]]:
     interfaces: list[Interface] = []
     heads = {order: struct.Struct(order + "5I").unpack_from for order in "<>"}
     for order, kind, octets, at, end in blocks(file):
-        if kind == PACKET and end - at >= 20:
+        if kind in (PACKET, OLD_PACKET) and end - at >= 20:
             place, high, low, kept, length = heads[order](octets, at)
+            if kind == OLD_PACKET:  # its interface has 16 bits, and beside it stands how many packets were lost
+                place = place & 0xFFFF if order == "<" else place >> 16
             at += 20
             if place >= len(interfaces) or at + kept > end:
                 raise Damaged("a packet says that it is longer than its block, or of no interface")
@@ -172,7 +171,7 @@ def packets(file: Source) -> Iterator[tuple[Interface, int, bytes, int, int]]:
         elif kind == INTERFACE:
             interfaces.append(interface_of(order, octets[at:end], len(interfaces)))
         elif kind in (OLD_PACKET, SIMPLE_PACKET, PACKET):
-            raise Damaged("it has packets in blocks of an old form, or without stamps: editcap -F pcap makes others of them")
+            raise Damaged("it has packets without stamps, or too short for one: editcap -F pcap makes others of them")
 
 
 def flags_of(said: bytes, order: str) -> int:

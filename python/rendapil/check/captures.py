@@ -13,9 +13,9 @@ from itertools import islice
 from typing import TYPE_CHECKING
 
 from rendapil.any_capture import IPV4, TAGS
-from rendapil.bindings import SIDES
+from rendapil.bindings import SECOND, SIDES
 from rendapil.document import Side, faultless
-from rendapil.files import ETHERNET, FORMS, RECORD, shown
+from rendapil.files import ETHERNET, FORMS, RECORD, Damaged, NoStamp, Record, TooLong, pcap_records, shown
 from rendapil.inputs import Fed, opened
 from rendapil.kinds import by_head
 from rendapil.packet import SUM_AT, Packet, is_host, is_private
@@ -61,26 +61,22 @@ def look_at(path: str, side: Side, realms: "Realms", most: int) -> Looked:
         head = file.read(24)
         if fault := unreadable(head, shlex.quote(path)):
             return Looked(fault=fault)
-        order, unit = FORMS[head[:4]]
-        link = struct.unpack(order + "I", head[20:])[0]
-        while looked.total < most and (record := file.read(16)):
-            seconds, fraction, size, length = struct.unpack(order + "4I", record.ljust(16, b"\0"))
-            octets = file.read(min(size, RECORD))
-            if len(record) < 16 or size <= RECORD and len(octets) < size:
-                looked.fault = f"ends inside its record {looked.total + 1}: Torn. Keep the whole ones: editcap -F pcap {shlex.quote(path)} NEW"
-            elif size > RECORD:
-                looked.fault = f"has more than {RECORD} bytes in its record {looked.total + 1}: RecordTooLong. It isn't whole: copy it again"
-            elif fraction * unit >= 10**9:
-                looked.fault = f"has a stamp that is none in its record {looked.total + 1}: Stamp. 'rendapil try' reads it"
-            if looked.fault:
-                break
-            looked.total += 1
-            digest.update(record[8:] + octets)
-            kind = kind_of(octets, link, length, side, realms)
-            looked.count[kind] += 1
-            if kind == "good":
-                datagram = octets[14:] if link == ETHERNET else octets
-                scan.take(looked.total, 0 if side == "left" else 1, datagram, [datagram])
+        order, unit = form = FORMS[head[:4]]
+        records = pcap_records(file, form, struct.unpack(order + "I", head[20:])[0], SECOND // unit)
+        try:
+            for looked.total, frame in enumerate(islice(records, most), 1):
+                digest.update(struct.pack("<II", len(frame.octets), frame.length) + frame.octets)
+                kind = kind_of(frame, side, realms)
+                looked.count[kind] += 1
+                if kind == "good":
+                    datagram = frame.octets[14:] if frame.link == ETHERNET else frame.octets
+                    scan.take(looked.total, SIDES.index(side), datagram, [datagram])
+        except NoStamp:
+            looked.fault = f"has a stamp that is none in its record {looked.total + 1}: Stamp. 'rendapil try' reads it"
+        except TooLong:
+            looked.fault = f"has more than {RECORD} bytes in its record {looked.total + 1}: RecordTooLong. It isn't whole: copy it again"
+        except Damaged:
+            looked.fault = f"ends inside its record {looked.total + 1}: Torn. Keep the whole ones: editcap -F pcap {shlex.quote(path)} NEW"
     looked.digest = digest.digest()
     if isinstance(file, Fed) and file.damage:
         looked.fault = f"is damaged: {file.damage}"
@@ -106,13 +102,14 @@ def meaning_by(realms: "Realms") -> Meaning:
     return meaning
 
 
-def kind_of(octets: bytes, link: int, length: int, side: Side, realms: "Realms") -> str:
+def kind_of(frame: Record, side: Side, realms: "Realms") -> str:
     """What the gateway has to say of a frame: the first of the reasons that are looked for, in the order in which it looks for them."""
+    octets = frame.octets
     if not octets:
         return "heartbeat"
-    if length > len(octets):
+    if frame.length > len(octets):
         return "cut"
-    if link == ETHERNET:
+    if frame.link == ETHERNET:
         if octets[12:14] in TAGS:
             return "tags"
         octets = octets[14:] if octets[12:14] == IPV4 else b""

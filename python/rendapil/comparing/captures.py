@@ -10,13 +10,13 @@ from collections import Counter
 from collections.abc import Callable, Iterable, Iterator
 from dataclasses import dataclass, field
 
-from rendapil.any_capture import IN, LOCAL, OUT, UNKNOWN, Record, datagram_in, with_length
+from rendapil.any_capture import datagram_in, with_length
 from rendapil.bindings import SECOND, SIDES, TCP, UDP, Blocks, pool_of
 from rendapil.document import Document
-from rendapil.files import ETHERNET, bare_head, record_head, shown
+from rendapil.files import ETHERNET, IN, LOCAL, OUT, UNKNOWN, Damaged, Record, bare_head, record_head, shown
 from rendapil.packet import ICMP, Packet, header_sum
 from rendapil.progress import Progress
-from rendapil.readers import Damaged, records, whole_records
+from rendapil.readers import records, whole_records
 
 ENDS = struct.Struct(">II")
 """The addresses of a datagram."""

@@ -10,7 +10,6 @@ from collections.abc import Iterator
 from dataclasses import asdict, dataclass
 from ipaddress import IPv4Address
 
-from rendapil.any_capture import IN, OUT
 from rendapil.bindings import SECOND, SIDES
 from rendapil.check.settings import document_of
 from rendapil.comparing.bindings import Clock, Learnt, clock_of
@@ -21,7 +20,7 @@ from rendapil.comparing.match import Match
 from rendapil.comparing.ports import undo_ports
 from rendapil.document import Document
 from rendapil.ending import ended, put_in_place, refuse_overwriting
-from rendapil.files import shown
+from rendapil.files import IN, OUT, shown
 from rendapil.frames import time_of
 from rendapil.other_python import has
 from rendapil.places import TOP

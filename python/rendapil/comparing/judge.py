@@ -7,7 +7,6 @@ from collections.abc import Iterable
 from dataclasses import dataclass
 from ipaddress import IPv4Address
 
-from rendapil.any_capture import IN, OUT
 from rendapil.bindings import ACK, FIN, RST, SIDES, SYN, TCP, Blocks
 from rendapil.comparing.bindings import Learnt
 from rendapil.comparing.captures import Bare, Links
@@ -30,6 +29,7 @@ from rendapil.comparing.causes import (
 from rendapil.comparing.match import KEPT, Came, Due, Match, Reference, Sent, is_tracked, rematched, sent_by
 from rendapil.comparing.streams import MISSED, PROXY, ROOM, Direction, Segment, Stream, segment_of, split_by_syn
 from rendapil.document import Document
+from rendapil.files import IN, OUT
 from rendapil.packet import ICMP, Packet
 from rendapil.sayings import Fault
 from rendapil.streams import TRACKED

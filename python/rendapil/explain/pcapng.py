@@ -4,7 +4,7 @@ import struct
 from typing import IO
 
 from rendapil.bindings import SIDES
-from rendapil.files import Frame
+from rendapil.files import Record
 from rendapil.frames import Event, Verdict, compared, may_speak, spoken, ways
 from rendapil.payloads.scan import Scan
 
@@ -36,7 +36,7 @@ class Commented:
         for name, link in zip(INTERFACES, links):
             self._file.write(block(1, struct.pack("<HHI", link, 0, 0), (NAME, name.encode()), (UNIT, b"\x09")))
 
-    def _put(self, interface: int, moment: int, frame: Frame, comment: str) -> None:
+    def _put(self, interface: int, moment: int, frame: Record, comment: str) -> None:
         """Writes a frame."""
         octets, text, kept = frame.octets, comment.encode(), len(frame.octets)
         size = kept + -kept % 4 + len(text) + -len(text) % 4 + 40

@@ -9,7 +9,7 @@ from itertools import islice
 
 from rendapil.bindings import ETHERNET, SIDES, Binding, Bindings, datagram_of
 from rendapil.document import Document
-from rendapil.files import SENT, Capture, Frame, Line, lines, shown
+from rendapil.files import SENT, Capture, Line, Record, lines, shown
 from rendapil.frames import Event, address_of
 
 HOSTS, DESTINATIONS = 10_000, 16
@@ -23,7 +23,7 @@ KINDS = {0x0800: "IPv4 that is cut", 0x0806: "ARP", 0x8100: "a VLAN tag", 0x88A8
 CUT_SHORT = "no last line: the run didn't come to the ends of both captures"
 
 
-def kind_of(frame: Frame) -> str:
+def kind_of(frame: Record) -> str:
     """What a frame is that has no IPv4 datagram."""
     kind = int.from_bytes(frame.octets[12:14])
     return KINDS.get(kind, f"type {kind:#06x}") if frame.link == ETHERNET and len(frame.octets) >= 14 else "no IPv4"
@@ -146,12 +146,12 @@ class Story:
                 if told and size and line.number % 1024 == 0:
                     told(file.tell() / size)
                 self._event(line, next(came[line.side], None), sent[1 - line.side], names)
-            every: list[Iterator[Frame]] = [*came, *sent]
+            every: list[Iterator[Record]] = [*came, *sent]
             for name, frames in zip(names, every):
                 if self.end != CUT_SHORT and next(frames, None) is not None:
                     raise ValueError(f"{name} has more frames than the report")
 
-    def _event(self, line: Line, frame: Frame | None, sent: Iterator[Frame], names: list[str]) -> None:
+    def _event(self, line: Line, frame: Record | None, sent: Iterator[Record], names: list[str]) -> None:
         """Takes a line with its frame and those that were sent for it."""
         number, side, moment, verdict, count = line
         if not frame:
@@ -161,7 +161,7 @@ class Story:
         went = list(islice(sent if count < 16 else limited(sent), count)) if count else []
         if len(went) < count:
             raise ValueError(f"event {number}: {names[3 - side]} has no frame left")
-        images = [datagram_of(octets, link) for octets, _, link, _ in went]
+        images = [datagram_of(octets, link) for _, link, octets, *_ in went]
         if b"" in images:
             raise ValueError(f"event {number}: {names[3 - side]} has a frame that no gateway sends")
         datagram = datagram_of(frame.octets, frame.link)
@@ -190,7 +190,7 @@ class Story:
         return sorted((one for one in self.bindings if one.uses), key=lambda one: (one.side, one.host, one.first))
 
 
-def limited(frames: Iterator[Frame]) -> Iterator[Frame]:
+def limited(frames: Iterator[Record]) -> Iterator[Record]:
     """Frames, as long as all of them together have no more bytes than a run sends for one."""
     total = 0
     for frame in frames:

@@ -6,12 +6,12 @@ import sys
 from collections import Counter
 from collections.abc import Iterator
 
-from rendapil.any_capture import RAW, Record, datagram_in, with_length
+from rendapil.any_capture import RAW, datagram_in, with_length
 from rendapil.ending import ended
 from rendapil.explain.command import written
-from rendapil.files import ETHERNET, RAW_IP, bare_head, record_head, shown
+from rendapil.files import ETHERNET, RAW_IP, Damaged, Record, bare_head, record_head, shown
 from rendapil.packet import Packet
-from rendapil.readers import Damaged, whole_records
+from rendapil.readers import whole_records
 from rendapil.sayings import Fault
 from rendapil.trying.two_realms import fill
 

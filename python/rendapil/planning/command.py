@@ -9,16 +9,15 @@ from collections.abc import Iterator
 from contextlib import suppress
 from ipaddress import IPv4Address, IPv4Network
 
-from rendapil.any_capture import Record
 from rendapil.bindings import SIDES
 from rendapil.ending import ended, fail, put_in_place, refuse_overwriting
-from rendapil.files import FORMS, shown
+from rendapil.files import FORMS, Damaged, Record, shown
 from rendapil.frames import second_of
 from rendapil.inputs import files_of
 from rendapil.payloads.scan import lines_of, plural, told_rows
 from rendapil.planning.firm import MOST_HOSTS, TABLES, Firm, Machine, services_of
 from rendapil.planning.inventories import inventory
-from rendapil.readers import PACKED, PCAPNG, Damaged, whole_records
+from rendapil.readers import PACKED, PCAPNG, whole_records
 from rendapil.sayings import Fault
 from rendapil.public import public_blocks
 from rendapil.settings_text import oid_table, pool_table, same_line, static_table

@@ -15,15 +15,16 @@ from collections.abc import Iterable, Iterator
 from importlib.util import find_spec
 from typing import BinaryIO
 
-from rendapil.any_capture import Record, records
 from rendapil.ending import ended
-from rendapil.files import shown
+from rendapil.files import Damaged, Record, shown
 from rendapil.kinds import PACKED
 from rendapil.other_python import debian_has, has
 from rendapil.places import TOP
 from rendapil.public import public_blocks
+from rendapil.readers import NoCapture
 from rendapil.sayings import Fault, called, quoted
 from rendapil.trying.listing import tell_pairs
+from rendapil.trying.reading import records
 from rendapil.trying.telling import again_of, lost_fragments, notes_of, tell_limits, tell_needs, tell_realms, tell_verdicts, verdicts_in
 from rendapil.trying.two_realms import TwoRealms, block_of, write_captures
 
@@ -165,8 +166,6 @@ def try_or_list(words: argparse.Namespace) -> int:
     """Tries a capture, or lists who speaks with whom. The status."""
     if not has("scapy"):
         raise Fault("this needs scapy: apt-get install python3-scapy")
-    from scapy.error import Scapy_Exception
-
     try:
         with readable_twice(words.capture) as capture:
             refuse_packed(capture, words.capture)
@@ -174,7 +173,9 @@ def try_or_list(words: argparse.Namespace) -> int:
                 return try_it(words, capture)
             tell_pairs(capture, words.capture, called(), words.program, not words.public)
             return 0
-    except (Scapy_Exception, EOFError) as error:
+    except NoCapture:
+        raise Fault(f"{shown(words.capture)} is no capture") from None
+    except Damaged as error:
         raise Fault(f"{shown(words.capture)} is no capture that can be read: {error}") from None
 
 

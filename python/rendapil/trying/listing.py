@@ -6,12 +6,13 @@ from collections import Counter
 from ipaddress import IPv4Network, collapse_addresses
 from itertools import islice
 
-from rendapil.any_capture import datagram_in, records, why_none
+from rendapil.any_capture import datagram_in, why_none
 from rendapil.files import shown
 from rendapil.packet import Packet, is_host
 from rendapil.program import used
 from rendapil.public import public_blocks
 from rendapil.sayings import Fault, quoted
+from rendapil.trying.reading import records
 from rendapil.trying.oddities import Oddities
 from rendapil.trying.telling import counted, verdicts_in
 from rendapil.trying.two_realms import TwoRealms, write_captures
