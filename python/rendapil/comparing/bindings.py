@@ -1,6 +1,5 @@
 """What a real device calls each host, by its captures: which frame went out for which, whatever the device changed in it; how far two clocks are apart;
 and settings with the device's own aliases, by which the reference runs."""
-import struct
 from collections import Counter
 from collections.abc import Iterable, Iterator
 from dataclasses import dataclass, field
@@ -9,7 +8,7 @@ from ipaddress import IPv4Address
 from zlib import crc32
 
 from rendapil.bindings import SECOND, SIDES, TCP, UDP, Blocks, pool_of
-from rendapil.comparing.captures import Bare, Joiner, Links
+from rendapil.comparing.captures import Bare, Joiner, Links, frames
 from rendapil.document import Document
 from rendapil.packet import ICMP, is_host
 from rendapil.settings_text import oid_table, pool_table, same_line, static_table
@@ -19,9 +18,6 @@ SAMPLE, APART = 20_000, 2 * SECOND
 
 PARTS, DRIFTED = 16, SECOND // 5
 """Into how many parts of time captures are cut to see a drift, and from which drift on it is followed."""
-
-NANOSECONDS, CHUNK = b"\x4d\x3c\xb2\xa1", 1 << 22
-"""The first bytes of such a capture, and how much of it is read at once."""
 
 VOTES, STATICS, FEW = 20, 12_000, 3
 """How many frames of one pair of hosts are looked at in each second, for how many hosts there is room in the settings, and how many frames of another
@@ -56,24 +52,6 @@ def whole_frames(path: str) -> Iterator[tuple[int, bytes]]:
 def is_error(datagram: bytes) -> bool:
     """Whether it is an ICMP error: devices give these sources of their own choice."""
     return datagram[(datagram[0] & 15) * 4 :][:1] not in (b"\0", b"\x08")
-
-
-def frames(path: str) -> Iterator[tuple[int, bytes]]:
-    """Stamps and datagrams of a capture of bare datagrams with nanoseconds, as this tool and the reference write them."""
-    heads, rest = struct.Struct("<3I"), b""
-    with open(path, "rb") as file:
-        if file.read(24)[:4] != NANOSECONDS:
-            raise ValueError(f"{path} isn't a capture that the reference writes")
-        while chunk := file.read(CHUNK):
-            octets, at = rest + chunk, 0
-            end = len(octets)
-            while at + 16 <= end:
-                seconds, fraction, size = heads.unpack_from(octets, at)
-                if at + 16 + size > end:
-                    break
-                yield seconds * SECOND + fraction, octets[at + 16 : at + 16 + size]
-                at += 16 + size
-            rest = octets[at:]
 
 
 # Two clocks.

@@ -136,6 +136,10 @@ class Joiner:
         return bytes(first) + whole
 
 
+NANOSECONDS, CHUNK = b"\x4d\x3c\xb2\xa1", 1 << 22
+"""The first bytes of a capture of bare datagrams, and how much of it is read at once."""
+
+
 @dataclass
 class Bare:
     """A capture of bare datagrams with the numbers that their frames had in the file of the user."""
@@ -229,7 +233,7 @@ class Links:
 
     def quiet_moments(self, spans: list[tuple[int, int]]) -> list[int]:
         """A moment in each span, in the middle of its longest silence. Spans that have a moment already get no other."""
-        moments = heapq.merge(*(moments_of(file.path) for file in self.came + self.went))
+        moments = heapq.merge(*((moment for moment, _ in frames(file.path)) for file in self.came + self.went))
         best = [(0, last) for _, last in spans]
         before = 0
         for moment in moments:
@@ -261,26 +265,30 @@ class Links:
             file.close()
 
 
-def moments_of(path: str) -> Iterator[int]:
-    """The stamps of a capture of bare datagrams."""
-    with open(path, "rb", 1 << 18) as file:
-        file.seek(24)
-        while len(head := file.read(16)) == 16:
-            seconds, fraction, size = struct.unpack_from("<3I", head)
-            file.seek(size, os.SEEK_CUR)
-            yield seconds * SECOND + fraction
+def frames(path: str) -> Iterator[tuple[int, bytes]]:
+    """Stamps and datagrams of a capture of bare datagrams with nanoseconds, as this tool and the reference write them."""
+    heads, rest = struct.Struct("<3I"), b""
+    with open(path, "rb") as file:
+        if file.read(24)[:4] != NANOSECONDS:
+            raise ValueError(f"{path} isn't a capture that the reference writes")
+        while chunk := file.read(CHUNK):
+            octets, at = rest + chunk, 0
+            end = len(octets)
+            while at + 16 <= end:
+                seconds, fraction, size = heads.unpack_from(octets, at)
+                if at + 16 + size > end:
+                    break
+                yield seconds * SECOND + fraction, octets[at + 16 : at + 16 + size]
+                at += 16 + size
+            rest = octets[at:]
 
 
 def cut_out(file: Bare, folder: str, begin: int, end: int) -> Bare:
     """The frames of a capture from one moment to another."""
     part = Bare(os.path.join(folder, os.path.basename(file.path)), file.name)
-    with open(file.path, "rb", 1 << 18) as octets:
-        octets.seek(24)
-        for number in file.numbers:
-            seconds, fraction, size, _ = struct.unpack("<4I", octets.read(16))
-            moment, datagram = seconds * SECOND + fraction, octets.read(size)
-            if begin <= moment < end:
-                part.put(moment, number, datagram)
+    for number, (moment, datagram) in zip(file.numbers, frames(file.path)):
+        if begin <= moment < end:
+            part.put(moment, number, datagram)
     part.close()
     return part
 

@@ -8,8 +8,7 @@ from itertools import islice
 from typing import NamedTuple, TypeVar
 
 from rendapil.bindings import TCP
-from rendapil.comparing.bindings import frames
-from rendapil.comparing.captures import Joiner, Links
+from rendapil.comparing.captures import Joiner, Links, frames
 from rendapil.packet import Packet
 from rendapil.progress import Progress
 from rendapil.streams import TRACKED

@@ -4,8 +4,8 @@ import os
 from array import array
 
 from rendapil.bindings import SIDES, TCP, UDP, Blocks, pool_of
-from rendapil.comparing.bindings import APART, Learnt, frames, identity, is_error
-from rendapil.comparing.captures import Bare, Links, ports
+from rendapil.comparing.bindings import APART, Learnt, identity, is_error
+from rendapil.comparing.captures import Bare, Links, frames, ports
 from rendapil.document import Document
 from rendapil.packet import ICMP, Packet, is_host
 
