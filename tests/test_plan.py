@@ -13,6 +13,7 @@ from pathlib import Path
 from testing import PLAN, PROGRAM, TOP, said
 
 from datagrams import tcp, udp
+from rendapil.ending import put_in_place
 from rendapil.planning.inventories import Flow, Listed, inventory
 from rendapil.planning.names import named_hosts
 from rendapil.planning.rehearsal import calls_of
@@ -55,6 +56,20 @@ class Planned(unittest.TestCase):
         self.north, self.south = office((5, 6), range(10, 20)), office((5,), range(15, 40))
         self.left, self.right = self.put("north", capture(self.north)), self.put("south", capture(self.south))
         self.settings = f"{self.room}/settings.toml"
+
+    def test_put_in_place(self) -> None:
+        """A file that is written anew keeps its rights, by a link too. Where it can't be written whole, it stays, and nothing is left beside it."""
+        path = self.put("page", b"old")
+        os.chmod(path, 0o600)
+        os.symlink(path, f"{self.room}/link")
+        put_in_place(f"{self.room}/link", "new")
+        self.assertEqual((Path(path).read_text("ascii"), os.stat(path).st_mode & 0o777, os.path.islink(f"{self.room}/link")), ("new", 0o600, True))
+        with self.assertRaises(UnicodeEncodeError):
+            put_in_place(path, "\ud800")
+        self.assertEqual((Path(path).read_text("ascii"), [name for name in os.listdir(self.room) if name.startswith(".")]), ("new", []))
+        with self.assertRaises(OSError) as raised:
+            put_in_place("/dev/full", "new")
+        self.assertEqual(raised.exception.filename, "/dev/full")
 
     def put(self, name: str, octets: bytes | str) -> str:
         """A file."""

@@ -1,9 +1,9 @@
 """How a tool ends: with a status, or with one line that says why not."""
 import os
 import sys
-from collections.abc import Callable, Iterable
-from contextlib import suppress
-from typing import NoReturn
+from collections.abc import Callable, Iterable, Iterator
+from contextlib import contextmanager
+from typing import IO, NoReturn
 
 from rendapil.files import escape_output, shown, unforeseen
 from rendapil.sayings import Fault
@@ -44,22 +44,38 @@ def refuse_overwriting(outputs: Iterable[str], inputs: Iterable[str]) -> None:
             raise Fault(f"{shown(output)} is a file that is read, and would be overwritten")
 
 
+@contextmanager
+def written(path: str) -> Iterator[IO[bytes]]:
+    """A file that takes the place of what was there when all is written, or a pipe or device as it is."""
+    if os.path.exists(path) and not os.path.isfile(path):
+        with open(path, "wb") as file:
+            yield file
+        return
+    import tempfile
+
+    whole = os.path.realpath(path)
+    try:
+        new = tempfile.NamedTemporaryFile(dir=os.path.dirname(whole), prefix=".rendapil-", delete=False)
+    except OSError as error:
+        raise OSError(error.errno, error.strerror, path) from None
+    with new as file:
+        try:
+            yield file
+            file.flush()
+            mask = os.umask(0)
+            os.umask(mask)
+            os.chmod(file.name, os.stat(whole).st_mode & 0o777 if os.path.exists(whole) else 0o666 & ~mask)
+            os.replace(file.name, whole)
+        except BaseException:
+            os.unlink(file.name)
+            raise
+
+
 def put_in_place(path: str, text: str) -> None:
     """Writes a file whole, or not at all."""
-    if os.path.exists(path) and not os.path.isfile(path):  # a device or a pipe
-        try:
-            with open(path, "w", encoding="utf-8") as file:
-                file.write(text)
-        except OSError as error:
-            error.filename = path
-            raise
-        return
-    new = f"{path}.new"
     try:
-        with open(new, "w", encoding="utf-8") as file:
-            file.write(text)
-        os.replace(new, path)
-    except OSError:
-        with suppress(OSError):
-            os.remove(new)
+        with written(path) as file:
+            file.write(text.encode())
+    except OSError as error:
+        error.filename = path
         raise

@@ -22,7 +22,6 @@ from rendapil.document import Document
 from rendapil.ending import ended, put_in_place, refuse_overwriting
 from rendapil.files import IN, OUT, shown
 from rendapil.frames import time_of
-from rendapil.other_python import has
 from rendapil.places import TOP
 from rendapil.readers import records
 from rendapil.sayings import Fault
@@ -271,8 +270,10 @@ def compared_by_parts(words: argparse.Namespace, settings: Document, links: Link
 
 def compare(words: argparse.Namespace) -> int:
     """Compares, and tells. 1 where something differs."""
-    if words.html and not has("jinja2"):
-        raise Fault("--html needs jinja2: apt-get install python3-jinja2")
+    if words.html:
+        from rendapil.pages import refuse_without_jinja
+
+        refuse_without_jinja()
     inputs = [words.settings, *words.captures]
     refuse_overwriting([words.html] if words.html else [], inputs)
     settings, _ = document_of(words.settings)

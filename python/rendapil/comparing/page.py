@@ -1,8 +1,7 @@
 """The page of a comparison, written by the template page.html. Jinja escapes all that comes from the captures. Needs Debian's python3-jinja2."""
 import argparse
-import base64
-import hashlib
 import os
+from pathlib import Path
 from typing import NamedTuple
 
 from rendapil.bindings import SECOND
@@ -10,9 +9,9 @@ from rendapil.comparing.captures import Links
 from rendapil.comparing.causes import BY_RIGHT, DIFFERENT, UNSURE, Group, Groups
 from rendapil.comparing.match import Match
 from rendapil.frames import time_of
+from rendapil.pages import STYLE, page_by, part_of
 
-HERE = os.path.dirname(os.path.realpath(__file__))
-STYLE = os.path.join(HERE, "..", "explain", "page.css")
+HERE = Path(__file__).resolve().parent
 BARS, WIDTH, HEIGHT, MOST_ROWS = 120, 600, 40, 200
 """How many bars a picture has, its size, and the most causes that are shown."""
 
@@ -61,11 +60,7 @@ def bars_of(group: Group, begin: int, end: int) -> list[Bar]:
 
 def page_of(words: argparse.Namespace, links: Links, match: Match, groups: Groups) -> str:
     """The page."""
-    from jinja2 import Environment, FileSystemLoader, StrictUndefined
-
-    room = Environment(autoescape=True, loader=FileSystemLoader(HERE), undefined=StrictUndefined, trim_blocks=True, lstrip_blocks=True)
-    with open(STYLE, encoding="utf-8") as one, open(os.path.join(HERE, "page.css"), encoding="utf-8") as other:
-        style = one.read() + other.read()
+    style, style_hash = part_of(STYLE, HERE / "page.css")
     files = [file for file in links.came + links.went if file.numbers]
     begin, end = min(file.first for file in files), max(file.last for file in files)
     kinds = []
@@ -73,9 +68,9 @@ def page_of(words: argparse.Namespace, links: Links, match: Match, groups: Group
         rows = groups.of(kind)
         told = [Row(row, time_of(row.first)[11:-4], time_of(row.last)[11:-4], bars_of(row, begin, end)) for row in rows[:MOST_ROWS]]
         kinds.append((kind, head, MEANS[kind], sum(row.count for row in rows), told, len(rows) - len(told)))
-    return room.get_template("page.html").render(
+    values = dict[str, object](
         style=style,
-        style_hash=base64.b64encode(hashlib.sha256(style.encode()).digest()).decode(),
+        style_hash=style_hash,
         settings=os.path.basename(words.settings),
         captures=[os.path.basename(path) for path in words.captures],
         begin=time_of(begin),
@@ -91,3 +86,4 @@ def page_of(words: argparse.Namespace, links: Links, match: Match, groups: Group
         width=WIDTH,
         height=HEIGHT,
     )
+    return page_by(HERE, values)

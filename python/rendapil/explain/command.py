@@ -5,22 +5,20 @@ import contextlib
 import json
 import os
 import sys
-import tempfile
 import time
 import tomllib
-from collections.abc import Callable, Iterable, Iterator
+from collections.abc import Callable, Iterable
 from dataclasses import asdict
 from ipaddress import IPv4Address
-from typing import IO, TYPE_CHECKING
+from typing import TYPE_CHECKING
 
 from rendapil.bindings import SECOND, SIDES, Binding, Pool
 from rendapil.check.settings import document_of
-from rendapil.ending import ended
+from rendapil.ending import ended, put_in_place, written
 from rendapil.explain.notes import NONE, Notes
 from rendapil.explain.story import Row, Story, named
 from rendapil.files import Capture, shown
 from rendapil.frames import second_of, time_of, verdicts_of
-from rendapil.other_python import has
 from rendapil.sayings import Fault
 from rendapil.settings_text import statics
 
@@ -229,31 +227,6 @@ def settings_with(text: str, rows: list[Binding]) -> str:
 # Files.
 
 
-@contextlib.contextmanager
-def written(path: str) -> Iterator[IO[bytes]]:
-    """A file that takes the place of what was there when all is written, or a pipe or device as it is."""
-    if os.path.exists(path) and not os.path.isfile(path):
-        with open(path, "wb") as file:
-            yield file
-        return
-    whole = os.path.realpath(path)
-    try:
-        new = tempfile.NamedTemporaryFile(dir=os.path.dirname(whole), prefix=".rendapil-", delete=False)
-    except OSError as error:
-        raise OSError(error.errno, error.strerror, path) from None
-    with new as file:
-        try:
-            yield file
-            file.flush()
-            mask = os.umask(0)
-            os.umask(mask)
-            os.chmod(file.name, os.stat(whole).st_mode & 0o777 if os.path.exists(whole) else 0o666 & ~mask)
-            os.replace(file.name, whole)
-        except BaseException:
-            os.unlink(file.name)
-            raise
-
-
 def refuse_words(files: dict[str, str], outputs: list[str]) -> None:
     """Ends where a word can't be meant."""
     for name, path in files.items():
@@ -335,8 +308,10 @@ def explain(words: argparse.Namespace) -> None:
     files = {name: getattr(words, name) for name in FILES}
     outputs = [output for output in (words.html, words.pcapng, words.new_settings) if output]
     refuse_words(files, outputs)
-    if words.html and not has("jinja2"):
-        raise Fault("--html needs jinja2: apt-get install python3-jinja2")
+    if words.html:
+        from rendapil.pages import refuse_without_jinja
+
+        refuse_without_jinja()
     document, text = document_of(words.settings)
     story = Story(document)
     scan, changes = looked_into(story) if not (words.statics or words.new_settings and outputs == [words.new_settings]) else (None, None)
@@ -367,15 +342,14 @@ def explain(words: argparse.Namespace) -> None:
         if told:
             print("\033[K", end="", file=sys.stderr, flush=True)
         if words.html and scan and changes:
-            behind.enter_context(written(words.html)).write(page.written(gathered, story, scan, changes).encode())
+            put_in_place(words.html, page.written(gathered, story, scan, changes))
     tell_form(words, story, scan, changes, text)
 
 
 def tell_form(words: argparse.Namespace, story: Story, scan: "Scan | None", changes: "Changes | None", text: str) -> None:
     """Writes new settings, or tells in the form that is asked for."""
     if words.new_settings:
-        with written(words.new_settings) as file:
-            file.write(settings_with(text, worth_keeping(story)).encode())
+        put_in_place(words.new_settings, settings_with(text, worth_keeping(story)))
     if words.statics:
         print(statics(worth_keeping(story)), end="")
     elif scan and changes and words.payloads:

@@ -1,6 +1,4 @@
 """The page of a run, written by the template page.html. Jinja escapes all that comes from the captures. Needs Debian's python3-jinja2."""
-import base64
-import hashlib
 from ipaddress import IPv4Address
 from pathlib import Path
 from typing import NamedTuple
@@ -14,6 +12,7 @@ from rendapil.explain.story import Story
 from rendapil.explain.talks import Talks
 from rendapil.explain.texts import Text, text_of
 from rendapil.frames import Verdict
+from rendapil.pages import STYLE, page_by, part_of
 from rendapil.payloads.applications import BREAKS, UNSURE
 from rendapil.payloads.kept import MAYBE
 from rendapil.payloads.scan import Scan, Told, summary_of, told_rows
@@ -179,24 +178,16 @@ class Page:
 
     def written(self, run: Gathered, story: Story, scan: Scan, changes: Changes) -> str:
         """The page."""
-        from jinja2 import Environment, FileSystemLoader, StrictUndefined
-
-        room = Environment(
-            autoescape=True,
-            loader=FileSystemLoader(HERE),
-            undefined=StrictUndefined,
-            trim_blocks=True,
-            lstrip_blocks=True,
-        )
         for parts in (run.by_time, run.by_number):
             parts.join_to(max(30, min(PARTS, sum(run.counts.values()))))
         reasons = self._colour(run)
         used = story.used()
         most_used = sorted(used, key=lambda one: -one.uses)[:SHOWN_BINDINGS]
         axis = self.axes(run)[0][2]
-        style, script = (self._part(name) for name in ("page.css", "page.js"))
+        style, script = part_of(STYLE), part_of(HERE / "page.js")
         total, refused = sum(run.counts.values()), sum(count for _, count in reasons)
-        return room.get_template("page.html").render(
+        return page_by(
+            HERE,
             {
                 **{"story": story, "run": run, "names": self.names, "verdicts": self.verdicts, "classes": self.classes, "sides": SIDES},
                 **{"clock": clock, "span": span, "counted": counted, "group_of": self.group_of},
@@ -214,18 +205,10 @@ class Page:
                 "missed": story.missed + story.table.missed,
                 "sessions": run.sessions.shown,
                 **{"style": style[0], "style_hash": style[1], "script": script[0], "script_hash": script[1]},
-            }
+            },
         )
 
     @staticmethod
     def _hundredths(axis: Axis) -> list[Tick]:
         """The marks over the bars."""
         return [Tick((tick.at - LEFT) / (WIDTH - LEFT) * 100, tick.text) for tick in axis.ticks(3)]
-
-    @staticmethod
-    def _part(name: str) -> tuple[str, str]:
-        """A file that stands in the page as it is, and its sum, by which the page allows it."""
-        from markupsafe import Markup
-
-        text = (HERE / name).read_text(encoding="utf-8")
-        return Markup(text), base64.b64encode(hashlib.sha256(text.encode()).digest()).decode()

@@ -7,8 +7,7 @@ from collections import Counter
 from collections.abc import Iterator
 
 from rendapil.any_capture import RAW, datagram_in, with_length
-from rendapil.ending import ended
-from rendapil.explain.command import written
+from rendapil.ending import ended, written
 from rendapil.files import ETHERNET, RAW_IP, Damaged, Record, bare_head, record_head, shown
 from rendapil.packet import Packet
 from rendapil.readers import whole_records

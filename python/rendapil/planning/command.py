@@ -311,7 +311,7 @@ def tell_zones(plan: Plan) -> None:
 def plan_it(words: argparse.Namespace) -> int:
     """Looks at both networks, writes the settings, and tells. The status."""
     if words.html:
-        from rendapil.planning.page import refuse_without_jinja
+        from rendapil.pages import refuse_without_jinja
 
         refuse_without_jinja()
     refuse_foreign(words.out)

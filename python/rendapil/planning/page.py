@@ -1,16 +1,13 @@
 """The page of a plan, for both firms, written by the template page.html. Jinja escapes all that comes from captures and lists. Needs python3-jinja2."""
-import base64
-import hashlib
-import os
 from ipaddress import IPv4Address, IPv4Network
+from pathlib import Path
 from typing import TYPE_CHECKING, NamedTuple
 
 from rendapil.bindings import SIDES
 from rendapil.frames import second_of
-from rendapil.other_python import has
+from rendapil.pages import STYLE, page_by, part_of
 from rendapil.payloads.scan import Told, plural, told_rows
 from rendapil.planning.firm import Firm, services_of
-from rendapil.sayings import Fault
 
 if TYPE_CHECKING:
     from rendapil.planning.command import Plan
@@ -18,14 +15,7 @@ if TYPE_CHECKING:
 MOST_MAPS, MOST_ROWS, CELL = 48, 500, 8
 """The most blocks that are drawn, the most rows of a table, and the size of an address in a map."""
 
-HERE = os.path.dirname(os.path.realpath(__file__))
-STYLE = os.path.join(HERE, "..", "explain", "page.css")
-
-
-def refuse_without_jinja() -> None:
-    """Ends where jinja2 isn't there."""
-    if not has("jinja2"):
-        raise Fault("--html needs jinja2: apt-get install python3-jinja2")
+HERE = Path(__file__).resolve().parent
 
 
 class Cell(NamedTuple):
@@ -121,16 +111,12 @@ def side_of(plan: "Plan", firm: Firm) -> Side:
 
 def page_of(plan: "Plan", names: list[str], rehearsal: list[str]) -> str:
     """The page."""
-    from jinja2 import Environment, FileSystemLoader, StrictUndefined
-
-    room = Environment(autoescape=True, loader=FileSystemLoader(HERE), undefined=StrictUndefined, trim_blocks=True, lstrip_blocks=True)
-    with open(STYLE, encoding="utf-8") as one, open(os.path.join(HERE, "page.css"), encoding="utf-8") as other:
-        style = one.read() + other.read()
+    style, style_hash = part_of(STYLE, HERE / "page.css")
     maps, left_out = maps_of(plan.firms)
     alike = len(set(plan.firms[0].hosts) & set(plan.firms[1].hosts))
-    return room.get_template("page.html").render(
+    values = dict[str, object](
         style=style,
-        style_hash=base64.b64encode(hashlib.sha256(style.encode()).digest()).decode(),
+        style_hash=style_hash,
         names=names,
         alike=alike,
         blocks=len([one for one in maps if one.left and one.right]),
@@ -144,3 +130,4 @@ def page_of(plan: "Plan", names: list[str], rehearsal: list[str]) -> str:
         settings="\n".join(plan.settings(names)),
         plural=plural,
     )
+    return page_by(HERE, values)
