@@ -15,16 +15,11 @@ from rendapil.frames import Verdict
 from rendapil.pages import STYLE, page_by, part_of
 from rendapil.payloads.applications import BREAKS, UNSURE
 from rendapil.payloads.kept import MAYBE
-from rendapil.payloads.scan import Scan, Told, summary_of, told_rows
+from rendapil.payloads.scan import Scan, Told, plural, summary_of, told_rows
 
 HERE = Path(__file__).resolve().parent
 SHOWN_BINDINGS, SHOWN_REFUSED, SHOWN_ZONES = 500, 100, 50
 """The most rows of each table."""
-
-
-def counted(count: int, name: str) -> str:
-    """So many of something."""
-    return f"{count:,} {name}{'' if count == 1 else 's'}"
 
 
 class Bar(NamedTuple):
@@ -103,10 +98,10 @@ class Page:
             return []
         found = []
         for kind, parts, axis in self.axes(run):
-            said = f"{counted(sum(run.counts.values()), 'frame')}, {some:,} of them refused"
+            said = f"{plural(sum(run.counts.values()), 'frame')}, {some:,} of them refused"
             pictures = [stacked("All frames", said, parts, axis, self.group_of, [*GROUPS, *refused])]
             if some:
-                pictures.append(stacked("Refused frames alone", f"{counted(some, 'frame')} refused", parts, axis, self.group_of, refused))
+                pictures.append(stacked("Refused frames alone", f"{plural(some, 'frame')} refused", parts, axis, self.group_of, refused))
             found.append((kind, pictures))
         return found
 
@@ -131,7 +126,7 @@ class Page:
     def pools_said(run: Gathered) -> list[str]:
         """The pools in words."""
         return [
-            f"{SIDES[side]} realm: {IPv4Address(pool.first)} to {IPv4Address(pool.last)}, {counted(pool.size, 'address').replace('addresss', 'addresses')}, "
+            f"{SIDES[side]} realm: {IPv4Address(pool.first)} to {IPv4Address(pool.last)}, {plural(pool.size, 'address').replace('addresss', 'addresses')}, "
             + (f"{pool.fixed:,} fixed, and at most {pool.most:,} taken" if pool.most > pool.fixed else f"{pool.fixed:,} fixed, and none taken by use")
             for side, pool in enumerate(run.table.pools)
         ]
@@ -143,7 +138,7 @@ class Page:
         refused = sum(count for _, count in reasons)
         held = f", {run.counts['held']:,} {'was' if run.counts['held'] == 1 else 'were'} held as fragments" if run.counts["held"] else ""
         said = [
-            f"{passed:,} of {counted(total, 'frame')} passed{held}"
+            f"{passed:,} of {plural(total, 'frame')} passed{held}"
             + (
                 f", and {refused:,} {'was' if refused == 1 else 'were'} refused, {'most as ' if len(reasons) > 1 else ''}{reasons[0][0]}."
                 if refused
@@ -153,16 +148,16 @@ class Page:
         breaking = [row for row in payloads if row.weight == BREAKS and row.sure != MAYBE]
         unsure = [row for row in payloads if row.weight == UNSURE and row.sure != MAYBE]
         if breaking:
-            names = ", ".join(f"{row.application} ({counted(row.frames, 'frame')})" for row in breaking[:5])
+            names = ", ".join(f"{row.application} ({plural(row.frames, 'frame')})" for row in breaking[:5])
             said.append(
-                f"What passed isn't all that works: {counted(len(breaking), 'application')} will break, since the gateway leaves addresses alone or refuses the protocol: {names}."
+                f"What passed isn't all that works: {plural(len(breaking), 'application')} will break, since the gateway leaves addresses alone or refuses the protocol: {names}."
             )
         else:
             said.append("No known application was found that breaks by addresses in its payloads.")
         if unsure:
-            said.append(f"{counted(len(unsure), 'application')} without a known name carr{'ies' if len(unsure) == 1 else 'y'} addresses.")
+            said.append(f"{plural(len(unsure), 'application')} without a known name carr{'ies' if len(unsure) == 1 else 'y'} addresses.")
         if changes.answers:
-            said.append(f"{counted(changes.answers, 'DNS answer')} changed.")
+            said.append(f"{plural(changes.answers, 'DNS answer')} changed.")
         return said
 
     def findings(self, run: Gathered, scan: Scan, changes: Changes) -> dict[str, object]:
@@ -190,7 +185,7 @@ class Page:
             HERE,
             {
                 **{"story": story, "run": run, "names": self.names, "verdicts": self.verdicts, "classes": self.classes, "sides": SIDES},
-                **{"clock": clock, "span": span, "counted": counted, "group_of": self.group_of},
+                **{"clock": clock, "span": span, "plural": plural, "group_of": self.group_of},
                 **{"width": WIDTH, "height": HEIGHT, "left": LEFT, "bottom": HEIGHT - BOTTOM, "top": TOP},
                 **{"total": total, "refused_frames": refused, "reasons": reasons, "has_others": len(reasons) > COLOURS},
                 "is_uneven": 4 * sum(bool(part.counts) for part in run.by_time.parts) < len(run.by_time.parts),

@@ -55,6 +55,14 @@ def map_lines(name: str, comment: str, pairs: list[tuple[str, str]]) -> list[str
     return [f"    # {comment}", f"    map {name} {{", "        type ipv4_addr : ipv4_addr", *elements, "    }", ""]
 
 
+def maps_of(settings: Document, side: Side) -> list[str]:
+    """The maps of the hosts that are known on a side."""
+    other = SIDES[1 - SIDES.index(side)]
+    pairs = pairs_of(settings, other)
+    hosts = map_lines(f"{other}_host", f"Which {other} host an alias on the {side} stands for.", [(alias, host) for host, alias in pairs])
+    return hosts + map_lines(f"{other}_alias", f"What a {other} host is called on the {side}.", pairs)
+
+
 def nftables(settings: Document, words: argparse.Namespace) -> list[str]:
     """The rules for nft -f."""
     same = settings.get("same", [])
@@ -65,10 +73,7 @@ def nftables(settings: Document, words: argparse.Namespace) -> list[str]:
     if same:
         lines += ["    # The same hosts in both realms.", "    set same {", "        type ipv4_addr", "        flags interval"]
         lines += [f"        elements = {{ {', '.join(same)} }}", "    }", ""]
-    for side, other in zip(SIDES, reversed(SIDES)):
-        pairs = pairs_of(settings, other)
-        lines += map_lines(f"{other}_host", f"Which {other} host an alias on the {side} stands for.", [(alias, host) for host, alias in pairs])
-        lines += map_lines(f"{other}_alias", f"What a {other} host is called on the {side}.", pairs)
+    lines += [line for side in SIDES for line in maps_of(settings, side)]
     lines += [
         "    # Nobody may speak as an alias: the reference refuses that as SourceInPool.",
         "    chain sources_checked {",
