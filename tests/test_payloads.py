@@ -19,7 +19,7 @@ from rendapil.frames import Event
 from rendapil.payloads.applications import APPLICATIONS, application_of
 from rendapil.payloads.behind import DECODERS, PROXY_2
 from rendapil.payloads.scan import HOST, Meant, Scan, lines_of, meaning_in, told_rows
-from rendapil.payloads.structures import MAPPED
+from rendapil.payloads.structures import MAPPED, MARKER
 from rendapil.trying.two_realms import fill
 from test_explain import HAS_JINJA, Happened, write_run
 from test_explain import InRoom as ExplainRoom
@@ -387,6 +387,20 @@ class Behind(unittest.TestCase):
                 self.assertEqual(
                     [one for one in named(DECODERS[name](payload[:size])) if one not in expected and not one.endswith(".0.0")], [], (name, size)
                 )
+
+    def test_hostile(self) -> None:
+        """Nothing ends a decoder, and none takes long: templates of many fields, of none, and of empty ones, and whatever octets stand behind a head."""
+        source = random.Random(12)
+        fields = b"\0\x08\0\0" * 8_000 + b"\0\x08\0\1"
+        empty = struct.pack(">4H", 0, 8 + len(fields), 256, 8_001) + fields + b"\1\0\x40\0"
+        began = time.monotonic()
+        for name, decoder in DECODERS.items():
+            for head in (b"\0\x09", b"\0\x0a", b"\0\1", b"\x81\4", b"\6\x10", b"\x97\0\3\x2a", bytes(4), MARKER + b"\0\x13\2"):
+                for size in (0, 1, 30, 300):
+                    self.assertLess(len(list(decoder(head + source.randbytes(size)))), 999, name)
+        for body in (empty, struct.pack(">4H", 0, 8, 256, 0xFFFF) * 4_000):
+            self.assertEqual(list(DECODERS["flow records"](b"\0\x09\0\2" + bytes(16) + body + bytes(9_000))), [])
+        self.assertLess(time.monotonic() - began, 5)
 
     def test_proxied(self) -> None:
         """Version 2 of the PROXY protocol stands in front of any application."""
