@@ -321,16 +321,16 @@ class Fields(unittest.TestCase):
     def test_redirects(self) -> None:
         """What is made of Host would have the alias, and works; so does what the proxy's own realm has."""
         table = Bindings(tomllib.loads(RIGHT + STATICS), lambda _: None)
-        for target, location, weight in ((b"/d", b"/d/", "tells"), (b"/d", b"/e", "breaks")):
+        for location, weight in ((b"10.0.0.9/d/", "tells"), (b"10.0.0.9:8080/login", "tells"), (b"10.0.0.5/d/", "breaks")):
             scan = Scan(meaning_in(table))
             ends, back = ("10.0.0.7", 4000, "192.168.200.9", 80), ("10.0.0.9", 80, "172.16.9.7", 4000)
             scan.take(
                 1,
                 0,
-                tcp(*ends, 24, 1, 1, b"GET " + target + b" HTTP/1.1\r\nHost: 10.0.0.9\r\n\r\n"),
+                tcp(*ends, 24, 1, 1, b"GET /d HTTP/1.1\r\nHost: 10.0.0.9\r\n\r\n"),
                 [tcp("172.16.9.7", 4000, "10.0.0.9", 80, 24, 1, 1, b"")],
             )
-            answer = b"HTTP/1.1 301 Moved\r\nLocation: http://10.0.0.9" + location + b"\r\n\r\n"
+            answer = b"HTTP/1.1 301 Moved\r\nLocation: http://" + location + b"\r\n\r\n"
             scan.take(2, 1, tcp(*back, 24, 1, 1, answer), [tcp("192.168.200.9", 80, "10.0.0.7", 4000, 24, 1, 1, answer)])
             self.assertEqual([row.weight for row in told_rows(scan)], [weight])
 
