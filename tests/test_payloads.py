@@ -22,7 +22,7 @@ from rendapil.payloads.addresses import Find, octets_in, stun_in, texts_in, word
 from rendapil.payloads.applications import APPLICATIONS, application_of
 from rendapil.payloads.behind import DECODERS, PROXY_2
 from rendapil.payloads.scan import HOST, Meant, Scan, lines_of, meaning_in, told_rows
-from rendapil.payloads.structures import MAPPED
+from rendapil.payloads.structures import MAPPED, MARKER
 from rendapil.trying.two_realms import fill
 from test_explain import HAS_JINJA, Happened, write_run
 from test_explain import InRoom as ExplainRoom
@@ -328,16 +328,16 @@ class Fields(unittest.TestCase):
     def test_redirects(self) -> None:
         """What is made of Host would have the alias, and works; so does what the proxy's own realm has."""
         table = Bindings(document_in(RIGHT + STATICS), lambda _: None)
-        for target, location, weight in ((b"/d", b"/d/", "tells"), (b"/d", b"/e", "breaks")):
+        for location, weight in ((b"10.0.0.9/d/", "tells"), (b"10.0.0.9:8080/login", "tells"), (b"10.0.0.5/d/", "breaks")):
             scan = Scan(meaning_in(table))
             ends, back = ("10.0.0.7", 4000, "192.168.200.9", 80), ("10.0.0.9", 80, "172.16.9.7", 4000)
             scan.take(
                 1,
                 0,
-                tcp(*ends, 24, 1, 1, b"GET " + target + b" HTTP/1.1\r\nHost: 10.0.0.9\r\n\r\n"),
+                tcp(*ends, 24, 1, 1, b"GET /d HTTP/1.1\r\nHost: 10.0.0.9\r\n\r\n"),
                 [tcp("172.16.9.7", 4000, "10.0.0.9", 80, 24, 1, 1, b"")],
             )
-            answer = b"HTTP/1.1 301 Moved\r\nLocation: http://10.0.0.9" + location + b"\r\n\r\n"
+            answer = b"HTTP/1.1 301 Moved\r\nLocation: http://" + location + b"\r\n\r\n"
             scan.take(2, 1, tcp(*back, 24, 1, 1, answer), [tcp("192.168.200.9", 80, "10.0.0.7", 4000, 24, 1, 1, answer)])
             self.assertEqual([row.weight for row in told_rows(scan)], [weight])
 
@@ -394,6 +394,20 @@ class Behind(unittest.TestCase):
                 self.assertEqual(
                     [one for one in named(DECODERS[name](payload[:size])) if one not in expected and not one.endswith(".0.0")], [], (name, size)
                 )
+
+    def test_hostile(self) -> None:
+        """Nothing ends a decoder, and none takes long: templates of many fields, of none, and of empty ones, and whatever octets stand behind a head."""
+        source = random.Random(12)
+        fields = b"\0\x08\0\0" * 8_000 + b"\0\x08\0\1"
+        empty = struct.pack(">4H", 0, 8 + len(fields), 256, 8_001) + fields + b"\1\0\x40\0"
+        began = time.monotonic()
+        for name, decoder in DECODERS.items():
+            for head in (b"\0\x09", b"\0\x0a", b"\0\1", b"\x81\4", b"\6\x10", b"\x97\0\3\x2a", bytes(4), MARKER + b"\0\x13\2"):
+                for size in (0, 1, 30, 300):
+                    self.assertLess(len(list(decoder(head + source.randbytes(size)))), 999, name)
+        for body in (empty, struct.pack(">4H", 0, 8, 256, 0xFFFF) * 4_000):
+            self.assertEqual(list(DECODERS["flow records"](b"\0\x09\0\2" + bytes(16) + body + bytes(9_000))), [])
+        self.assertLess(time.monotonic() - began, 5)
 
     def test_proxied(self) -> None:
         """Version 2 of the PROXY protocol stands in front of any application."""

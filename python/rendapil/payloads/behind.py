@@ -118,7 +118,7 @@ def templates_in(body: bytes) -> Iterator[tuple[int, list[tuple[int, int]]]]:
         number, count = int.from_bytes(body[at : at + 2]), int.from_bytes(body[at + 2 : at + 4])
         at += 4
         fields = []
-        for _ in range(count):
+        for _ in range(min(count, (len(body) - at) // 4)):
             kind, size = int.from_bytes(body[at : at + 2]), int.from_bytes(body[at + 2 : at + 4])
             at += 8 if kind & 0x8000 else 4
             fields.append((kind, size))
@@ -126,9 +126,9 @@ def templates_in(body: bytes) -> Iterator[tuple[int, list[tuple[int, int]]]]:
 
 
 def records_in(payload: bytes, at: int, end: int, fields: list[tuple[int, int]]) -> Iterator[Find]:
-    """The addresses of records of fixed size."""
-    size = sum(size for _, size in fields)
-    if not size or any(one == 0xFFFF for _, one in fields):
+    """The addresses of records of fixed size. No field is empty, so the work goes by the octets of the records."""
+    size = sum(width for _, width in fields)
+    if not fields or any(width in (0, 0xFFFF) for _, width in fields):
         return
     while at + size <= end:
         for kind, width in fields:

@@ -123,7 +123,7 @@ HTTP_RULES = [
 ]
 PROXIED = rule(rb"^(?:CONNECT |[A-Z]+ \w+://)", BREAKS, "a proxy of the other realm connects to it")
 HOSTED = Field("Host and what servers make of it", TELLS)
-MADE_OF_HOST = Field("a redirect that the server made of Host, which would be an alias", TELLS)
+MADE_OF_HOST = Field("a redirect to the host that was asked for: servers make it of Host, which would be an alias", TELLS)
 LINKED = HTTP_RULES[-3:-1]
 """Rules of links: what has the address that the client asked for is taken as made of it."""
 
@@ -154,7 +154,7 @@ def of_http(place: Place, before: bytes) -> Field | None:
         if not pattern.search(before):
             continue
         host = host_of(place.asked)
-        if field is HTTP_RULES[0][1] and host == address and is_made_of(place, before):
+        if field is HTTP_RULES[0][1] and host == address:
             return MADE_OF_HOST
         is_link = any(field is one for _, one in LINKED) or field is PRINTER
         return HOSTED if is_link and (host == address or field is PRINTER and not place.is_served) else field
@@ -167,14 +167,6 @@ def host_of(request: bytes) -> bytes:
     """The host that a request names in its head, without a port."""
     found = re.search(rb"(?i)\nHost:[ \t]*([^\s:]+)", request)
     return found[1] if found else b""
-
-
-def is_made_of(place: Place, before: bytes) -> bool:
-    """Whether a Location begins with what was asked for: servers make it of Host then, to add a slash or to go over to HTTPS."""
-    words = place.asked.split(b" ", 2)
-    found = re.match(rb"(?::\d+)?([^\r\n]*)", place.payload[place.find.end :])
-    target = found[1] if found else b""
-    return len(words) > 1 and target.startswith(words[1]) and target.strip(b"/ ") == words[1].strip(b"/ ")
 
 
 def of_smb(place: Place, before: bytes) -> Field | None:
