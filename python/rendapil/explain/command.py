@@ -238,7 +238,7 @@ def written(path: str) -> Iterator[IO[bytes]]:
         return
     whole = os.path.realpath(path)
     try:
-        new = tempfile.NamedTemporaryFile(dir=os.path.dirname(whole), prefix=".rendapil-", delete=False)
+        new = tempfile.NamedTemporaryFile(buffering=1 << 18, dir=os.path.dirname(whole), prefix=".rendapil-", delete=False)
     except OSError as error:
         raise OSError(error.errno, error.strerror, path) from None
     with new as file:
