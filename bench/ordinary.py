@@ -29,9 +29,10 @@ class Link:
     def __init__(self) -> None:
         self.number = 0
 
-    def frame(self, protocol: int, source: bytes, destination: bytes, payload: bytes, place: int) -> bytes:
+    def frame(self, protocol: int, ends: tuple[bytes, bytes], payload: bytes, place: int) -> bytes:
         """A record of a datagram whose payload has 0 where its checksum belongs."""
         self.number += 1
+        source, destination = ends
         total = sum_of(payload) + sum_of(source + destination) + protocol + len(payload)
         payload = payload[:place] + ((0xFFFF - total % 0xFFFF) or 0xFFFF).to_bytes(2) + payload[place + 2 :]
         head = struct.pack(">BBHHHBBH", 0x45, 0, 20 + len(payload), self.number & 0xFFFF, STAYS, 64, protocol, 0) + source + destination
@@ -42,7 +43,7 @@ class Link:
 
     def udp(self, ends: tuple[bytes, bytes], ports: tuple[int, int], octets: bytes) -> bytes:
         """A datagram of UDP."""
-        return self.frame(17, *ends, struct.pack(">4H", *ports, 8 + len(octets), 0) + octets, 6)
+        return self.frame(17, ends, struct.pack(">4H", *ports, 8 + len(octets), 0) + octets, 6)
 
 
 class Dialogue:
@@ -54,11 +55,11 @@ class Dialogue:
     def says(self, side: int, flags: int, octets: bytes = b"") -> bytes:
         """A segment of the client (0) or the server (1)."""
         turn = -1 if side else 1
+        ends = (self._ends[1], self._ends[0]) if side else self._ends
         numbers = self._next[side], self._next[1 - side] if flags & 16 else 0
         self._next[side] += len(octets) + bool(flags & 3)
-        return self._link.frame(
-            6, *self._ends[::turn], struct.pack(">HHIIBBHHH", *self._ports[::turn], *numbers, 0x50, flags, 8192, 0, 0) + octets, 16
-        )
+        head = struct.pack(">HHIIBBHHH", *self._ports[::turn], *numbers, 0x50, flags, 8192, 0, 0)
+        return self._link.frame(6, ends, head + octets, 16)
 
     def opens(self) -> Iterator[bytes]:
         """Its three first segments."""
