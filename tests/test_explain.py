@@ -25,7 +25,7 @@ from testing import CASE, CHECK, EXPLAIN, INPUTS, LIVE, MERGER, OUTPUTS, PROGRAM
 
 from rendapil import bindings, frames
 from rendapil.document import document_in
-from rendapil.files import Record
+from rendapil.files import Record, line_of, lines
 from rendapil.explain import command as explain, gathered as collected, story as stories
 
 HAS_JINJA = bool(find_spec("jinja2")) or said("/usr/bin/python3", "-I", "-c", "import jinja2, tomllib")[0] == 0
@@ -117,6 +117,35 @@ class InRoom(unittest.TestCase):
         with open(path, "wb") as file:
             file.write(octets.encode() if isinstance(octets, str) else octets)
         return path
+
+
+class Report(unittest.TestCase):
+    """Lines of a report that end as one before are read in another way than the first of their kind."""
+
+    def test_lines_that_end_alike(self) -> None:
+        """They are read as the first ones are, and refused as these."""
+        first = b"1 left 5 pass 1\n"
+        for text in (
+            b"2 right 7 pass 1\n",
+            b"02 left 0007 pass 1\n",
+            b"2 left 7 pass 2\n",
+            b'{"event":2,"frames":1,"moment":7,"side":"left","verdict":"pass"}\n',
+        ):
+            self.assertEqual(list(lines(io.BytesIO(first + text), "report"))[1], line_of(text))
+        damaged = (
+            b"+2 left 7",
+            b"2  left 7",
+            b"3 left 7",
+            b"2 up 7",
+            b"2 left -7",
+            b"2 left 7_0",
+            b"2 left ",
+            b"2 left %d" % (1 << 63),
+            b"2 left 7 7",
+        )
+        for begin in damaged:
+            with self.assertRaises(ValueError, msg=begin):
+                list(lines(io.BytesIO(first + begin + b" pass 1\n"), "report"))
 
 
 class Explain(InRoom):

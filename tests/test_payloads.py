@@ -2,23 +2,25 @@
 import json
 import os
 import random
+import re
 import struct
 import time
 import tomllib
 import unittest
 from collections.abc import Iterable
 from ipaddress import IPv4Address, IPv4Network
+from unittest import mock
 
 from testing import CHECK, EXPLAIN, PLAN, PROGRAM, RIGHT, capture, said
 
 from datagrams import fragments, icmp, tcp, udp  # testing says where it is
 from rendapil.bindings import TCP, UDP, Bindings
 from rendapil.document import document_in
-from rendapil.files import Frame
+from rendapil.files import Record
 from rendapil.frames import Event
 from rendapil.packet import Packet
 from rendapil.payloads import kept
-from rendapil.payloads.addresses import Find, octets_in, stun_in, texts_in, words_at
+from rendapil.payloads.addresses import Find, may_have_text, octets_in, stun_in, texts_in, words_at
 from rendapil.payloads.applications import APPLICATIONS, application_of
 from rendapil.payloads.behind import DECODERS, PROXY_2
 from rendapil.payloads.scan import HOST, Meant, Scan, lines_of, meaning_in, told_rows
@@ -85,6 +87,20 @@ class Finding(unittest.TestCase):
         ):
             self.assertEqual((text, named(texts_in(text))), (text, expected))
         self.assertEqual(named(texts_in(b"\x01DCC SEND file 167772165 4000 9", True)), ["10.0.0.5"])
+
+    def test_texts_are_found_wherever_they_begin(self) -> None:
+        """What is searched first leaves out no address that the expressions find by themselves."""
+        draw = random.Random(5)
+        parts = (b".", b",", b"1", b"12", b"255", b"0", b"1234", b" ", b"a", b"10.1.2.3", b"1,2,3,4,5,6", b"..", b",,", b"\n")
+        found = 0
+        for _ in range(20_000):
+            payload = b"".join(draw.choices(parts, k=draw.randrange(1, 30)))
+            texts = list(texts_in(payload))
+            found += len(texts)
+            self.assertTrue(may_have_text(payload) or not texts, payload)
+            with mock.patch.multiple("rendapil.payloads.addresses", DOTS=re.compile(b""), COMMAS=re.compile(b"")):
+                self.assertEqual(list(texts_in(payload)), texts, payload)
+        self.assertGreater(found, 5000)
 
     def test_octets(self) -> None:
         """Four octets, but for those that are all alike, and attributes of STUN."""
@@ -420,7 +436,7 @@ class Behind(unittest.TestCase):
         for verdict, protocol in (("TtlSpent", 89), ("Protocol", 112), ("TtlSpent", 17), ("NoBinding", 47)):
             datagram = bytearray(udp("10.0.0.5", 1, "192.168.200.1", 2, b""))
             datagram[9] = protocol
-            scan.event(Event(1, 0, 0, verdict, Frame(bytes(datagram), 0, 101, len(datagram)), bytes(datagram), [], []))
+            scan.event(Event(1, 0, 0, verdict, Record(0, 101, bytes(datagram), len(datagram)), bytes(datagram), [], []))
         self.assertEqual([row.application for row in told_rows(scan)], ["OSPF, IP protocol 89", "VRRP, IP protocol 112"])
 
     def test_names(self) -> None:

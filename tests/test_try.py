@@ -2,6 +2,7 @@
 import gzip
 import hashlib
 import os
+import random
 import re
 import struct
 import subprocess
@@ -11,12 +12,15 @@ import tomllib
 import unittest
 from collections.abc import Callable
 from importlib.util import find_spec
+from ipaddress import IPv4Network
+from unittest.mock import patch
 
 from testing import PROGRAM, TOP, TRY, capture, said
 
 from rendapil.trying.reading import records
 from datagrams import fragments, icmp, tcp, udp  # testing says where it is
 from rendapil.explain.pcapng import block
+from rendapil.trying.two_realms import TwoRealms, Way, plainly_moved
 
 HAS_SCAPY = bool(find_spec("scapy")) or said("/usr/bin/python3", "-I", "-c", "import scapy, tomllib")[0] == 0
 PYTHON = sys.executable if find_spec("scapy") else "/usr/bin/python3"
@@ -136,6 +140,42 @@ class Order(InRoom):
 
 
 @unittest.skipUnless(HAS_SCAPY and os.access(PROGRAM, os.X_OK), "there is no python3-scapy, or the program isn't built")
+class Plain(InRoom):
+    """Frames of which only the destination changes are written in another way than all others."""
+
+    def test_as_all_others(self) -> None:
+        """Each is what the way of all others makes of it, whatever its sums, flags and lengths are."""
+        draw = random.Random(7)
+        frames = []
+        for number in range(3000):
+            ends = CLIENT[0], draw.choice((21, 4000, 53)), SERVER[0], draw.choice((21, 80, 53, 9))
+            payload = draw.choice((b"", b"\0\0", draw.randbytes(draw.randrange(40))))
+            one = bytearray(udp(*ends, payload) if number % 2 else tcp(*ends, draw.choice((16, 24)), number, 5, payload))
+            if draw.random() < 0.7:
+                at = draw.choice((0, 2, 3, 6, 7, 8, 9, 10, 11, 26, 27, 33, 36, 37, draw.randrange(len(one))))
+                one[at % len(one)] = draw.choice((0, 255, one[at % len(one)] ^ 1, draw.randrange(256)))
+            if draw.random() < 0.1:
+                at = draw.choice((10, 26, 36)) % (len(one) - 1)
+                one[at : at + 2] = draw.choice((b"\0\0", b"\xff\xff"))
+            frames.append(bytes(one[: draw.choice((len(one), len(one), len(one), draw.randrange(len(one) + 1)))]))
+        path = self.write("plain.pcap", pcap(101, frames))
+        done: list[bytes] = []
+
+        def noted(octets: bytes, way: Way, is_mended: bool) -> bytes:
+            done.append(plainly_moved(octets, way, is_mended))
+            return done[-1]
+
+        for is_mended in (True, False):
+            found = []
+            for way in (noted, lambda *_: b""):
+                realms = TwoRealms([IPv4Network("10.1.0.0/16")], [], is_mended)
+                realms.survey(records(path))
+                with patch("rendapil.trying.two_realms.plainly_moved", way):
+                    found.append((list(realms.crossing(records(path))), realms.mended, realms.filled))
+            self.assertEqual(found[0], found[1])
+        self.assertGreater(sum(map(bool, done)), 800)
+
+
 class Try(InRoom):
     """What `try` makes of an ordinary capture."""
 

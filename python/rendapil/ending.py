@@ -55,7 +55,7 @@ def written(path: str) -> Iterator[IO[bytes]]:
 
     whole = os.path.realpath(path)
     try:
-        new = tempfile.NamedTemporaryFile(dir=os.path.dirname(whole), prefix=".rendapil-", delete=False)
+        new = tempfile.NamedTemporaryFile(buffering=1 << 18, dir=os.path.dirname(whole), prefix=".rendapil-", delete=False)
     except OSError as error:
         raise OSError(error.errno, error.strerror, path) from None
     with new as file:

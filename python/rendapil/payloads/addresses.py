@@ -9,8 +9,10 @@ from rendapil.frames import SECRET
 HITS = 64
 """The most hits of four octets in a payload."""
 
-DOTS, RUN = re.compile(rb"\.[0-9]{1,3}\.[0-9]{1,3}\."), re.compile(rb"[0-9]{1,3}(?:\.[0-9]{1,3}){3,}")
-COMMAS, SIX = re.compile(rb",[0-9]{1,3},[0-9]{1,3},"), re.compile(rb"(?<![0-9,])[0-9]{1,3}(?:,[0-9]{1,3}){5}(?![0-9,])")
+DOTS, RUN = re.compile(rb"\.[0-9]{1,3}\.[0-9]{1,3}\.[0-9]"), re.compile(rb"[0-9]{1,3}(?:\.[0-9]{1,3}){3,}")
+COMMAS, SIX = re.compile(rb",[0-9]{1,3},[0-9]{1,3},[0-9]{1,3},"), re.compile(rb"(?<![0-9,])[0-9]{1,3}(?:,[0-9]{1,3}){5}(?![0-9,])")
+"""What is searched first, since it begins with an octet that is found at once, and what it has to be a part of: it begins up to three digits before."""
+
 WIDE = re.compile(rb"(?<![0-9.]\x00)(?:[0-9]\x00){1,3}(?:\.\x00(?:[0-9]\x00){1,3}){3}(?![0-9.]\x00)")
 ESCAPED = re.compile(rb"(?i)(?<![0-9])[0-9]{1,3}(?:%2e[0-9]{1,3}){3}(?![0-9])")
 REVERSE = re.compile(
@@ -59,11 +61,11 @@ def may_have_text(payload: bytes) -> bool:
 
 def texts_in(payload: bytes, decimal: bool = False) -> Iterator[Find]:
     """The addresses that stand in a payload as text."""
-    if b"." in payload:
-        for one in RUN.finditer(payload):
+    if first := DOTS.search(payload):
+        for one in RUN.finditer(payload, max(0, first.start() - 3)):
             yield from dotted(payload, one)
-    if b"," in payload:
-        for one in SIX.finditer(payload):
+    if first := COMMAS.search(payload):
+        for one in SIX.finditer(payload, max(0, first.start() - 3)):
             yield Find(TEXT, one.start(), one.end(), number_of(one[0].split(b",")[:4]))
     if b".\0" in payload:
         for one in WIDE.finditer(payload):

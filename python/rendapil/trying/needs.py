@@ -13,7 +13,7 @@ HOUR, KNOWN = 3600 * SECOND, 100_000
 """An hour in nanoseconds, and the most hosts that are followed."""
 
 HOLDS = {UDP: UDP_TIMEOUT, ICMP: PING_HOLD}
-"""How long an alias lasts behind a frame. Of TCP it depends on its flags."""
+"""How long an alias lasts behind a frame. Behind one of TCP that depends on its flags."""
 
 
 class Seen(Protocol):
@@ -71,13 +71,19 @@ class Needs:
     def take(self, packet: Packet, moment: int, hosts: Mapping[int, Seen], side_of: Callable[[int], int], by_use: Sequence[tuple[int, int]]) -> None:
         """Takes a datagram that goes to the gateway. `by_use` are those of its ends that have no static, each with its realm."""
         protocol, head, octets = packet.protocol, packet.head, packet.octets
-        hold = HOLDS.get(protocol, TCP_HOLD)
-        if protocol == TCP and len(octets) >= head + 14 and octets[head + 13] & (SYN | ACK | FIN | RST) == ACK:
-            hold = LONG_TIMEOUT
+        if protocol == TCP:
+            self.use(by_use, octets[head + 13] if len(octets) >= head + 14 else 0, moment)
+            return
         for side, address in by_use:
-            self.by_side[side].use(address, moment, hold)
+            self.by_side[side].use(address, moment, HOLDS.get(protocol, TCP_HOLD))
         if protocol == UDP and not packet.is_fragment and len(octets) > head + 20 and packet.number(head) == DNS_PORT:
             self._take_names(bytes(octets[head + 8 : packet.total]), side_of(packet.source), moment, hosts, side_of)
+
+    def use(self, by_use: Sequence[tuple[int, int]], flags: int, moment: int) -> None:
+        """Notes a segment of TCP of hosts without statics, each with its realm."""
+        hold = LONG_TIMEOUT if flags & (SYN | ACK | FIN | RST) == ACK else TCP_HOLD
+        for side, address in by_use:
+            self.by_side[side].use(address, moment, hold)
 
     def _take_names(self, message: bytes, side: int, moment: int, hosts: Mapping[int, Seen], side_of: Callable[[int], int]) -> None:
         """Takes the hosts that an answer of DNS names."""

@@ -24,14 +24,7 @@ class Oddities:
     def take(self, packet: Packet) -> None:
         """Takes a datagram."""
         octets, head, protocol = packet.octets, packet.head, packet.protocol
-        self.looked_at += 1
-        if octets[4:6] != b"\0\0" or protocol == TCP and packet.total > head + 20:
-            key = hash(bytes(octets[2:8] + octets[9:10] + octets[12 : head + 16] + octets[-8:]))
-            self.doubled += key in self._recent
-            self._recent[key] = 1
-            if len(self._recent) > 2 * RECENT:
-                for old in list(self._recent)[:RECENT]:
-                    del self._recent[old]
+        self.count(bytes(octets[: head + 16] + octets[-8:]), head, protocol == TCP and packet.total > head + 20)
         if protocol != TCP:
             if name := self._tunnel(packet):
                 self.tunnels[name] += 1
@@ -41,6 +34,19 @@ class Oddities:
                 if len(self._noted) < 2 * PAIRS:
                     self._noted.add(ends)
                 self._note_way(ends[:4] + ends[8:10], ends[4:8] + ends[10:])
+
+    def count(self, octets: bytes, head: int, has_payload: bool) -> None:
+        """Takes a datagram, of which its header, 16 octets behind it and the last 8 are enough, and counts it where the same one was there shortly before.
+        A segment without payload may come again if it has no number."""
+        self.looked_at += 1
+        if not has_payload and octets[4:6] == b"\0\0":
+            return
+        key = hash(octets[2:8] + octets[9:10] + octets[12 : head + 16] + octets[-8:])
+        self.doubled += key in self._recent
+        self._recent[key] = 1
+        if len(self._recent) > 2 * RECENT:
+            for old in list(self._recent)[:RECENT]:
+                del self._recent[old]
 
     @staticmethod
     def _tunnel(packet: Packet) -> str:

@@ -35,8 +35,8 @@ HOSTS, SAID = 10_000, 1 << 26
 BOTH, NOBODY = 2, 3
 PORTS = struct.Struct(">HH")
 
-KNOWN = 1 << 17
-"""The most addresses, and pairs of hosts, of which it is kept what is known of them."""
+KNOWN, FLOWS = 1 << 17, 1 << 14
+"""The most addresses and pairs of hosts, and the most flows, of which it is kept what is known of them."""
 
 
 @dataclass
@@ -70,15 +70,26 @@ class Way(NamedTuple):
     new: int
 
 
-PLAIN, WHOLE = b"\x45", (b"\0\0", b"\x40\0")
-"""How a datagram without options begins, and the flags of one that is no fragment."""
+PLAIN, FRONT = 0x45, struct.Struct(">BxHxxHxBHII")
+"""How a datagram without options begins, and what is read of its header: its length, flags, protocol, checksum and ends."""
+
+
+def is_plain_segment(octets: bytes) -> bool:
+    """Whether it is a whole segment of TCP without options of IPv4."""
+    return (
+        len(octets) >= 40
+        and octets[0] == PLAIN
+        and octets[9] == TCP
+        and not (octets[6] & 0x3F or octets[7])
+        and len(octets) == octets[2] << 8 | octets[3]
+    )
 
 
 def plainly_moved(octets: bytes, way: Way, is_mended: bool) -> bytes:
     """A datagram as the gateway takes it, where that has another destination and nothing else: a whole one of UDP or TCP, of no connection that is
     followed, and with right sums where wrong ones are mended. Most frames are such ones. Nothing for all others."""
-    protocol, size = octets[9], len(octets)
-    if octets[:1] != PLAIN or octets[6:8] not in WHOLE or size != octets[2] << 8 | octets[3]:
+    begin, size, flags, protocol, of_header, source, _ = FRONT.unpack_from(octets)
+    if begin != PLAIN or flags & 0x3FFF or size != len(octets):
         return b""
     if protocol == TCP and size >= 40:
         at = 36
@@ -89,25 +100,18 @@ def plainly_moved(octets: bytes, way: Way, is_mended: bool) -> bytes:
         at = 26
     else:
         return b""
-    of_header, of_payload = octets[10] << 8 | octets[11], octets[at] << 8 | octets[at + 1]
+    of_payload = octets[at] << 8 | octets[at + 1]
     if is_mended:
         # Both sums are right where the header's octets and the others add up to nothing, with what the pseudo header has. 0xFFFF is another 0.
-        pseudo = (way.old + int.from_bytes(octets[12:16]) + protocol + size - 20) % 0xFFFF
+        pseudo = way.old + source + protocol + size - 20
         whole = int.from_bytes(octets) << 8 * (size & 1)
         if of_header == 0xFFFF or int.from_bytes(octets[:20]) % 0xFFFF or (whole + pseudo) % 0xFFFF or of_payload == 0xFFFF and protocol == TCP:
             return b""
     header_sum, payload_sum = adjusted(of_header, way.old, way.new), adjusted(of_payload, way.old, way.new)
     if protocol == UDP:
         payload_sum = payload_sum or 0xFFFF
-    return b"%b%b%b%b%b%b%b" % (
-        octets[:10],
-        header_sum.to_bytes(2),
-        octets[12:16],
-        way.alias,
-        octets[20:at],
-        payload_sum.to_bytes(2),
-        octets[at + 2 :],
-    )
+    front = octets[:10], header_sum.to_bytes(2), octets[12:16], way.alias, octets[20:at]
+    return b"".join((*front, payload_sum.to_bytes(2), octets[at + 2 :]))
 
 
 def block_of(text: str) -> IPv4Network:
@@ -145,6 +149,7 @@ class TwoRealms:
         self.needs, self.oddities = Needs(), Oddities()
         self._sides: dict[int, int] = {}
         self._pairs: dict[bytes, Pair] = {}
+        self._flows: dict[bytes, tuple[Pair, str]] = {}
         self._spoken: dict[tuple[int, int, int, int], list[Spoken | None]] = {}
         self._said = 0
         self._bound: dict[tuple[int, int], Binding] = {}
@@ -184,10 +189,16 @@ class TwoRealms:
             if not datagram:
                 self.left_out[why_none(frame)] += 1
                 continue
+            is_segment = is_plain_segment(datagram)
+            if is_segment and (flow := self._flows.get(datagram[12:24])):
+                self._take_again(flow, datagram, frame.moment)
+                continue
             packet = Packet(datagram)
             self.oddities.take(packet)
             is_error = packet.protocol == ICMP and packet.is_icmp_error  # it tells of other hosts too, and each time of other ones
             pair = not is_error and self._pairs.get(datagram[12:20]) or self._pair(packet, is_error)
+            if is_segment:
+                self._note_flow(datagram, pair)
             if pair.why:
                 self.left_out[pair.why] += 1
                 continue
@@ -198,6 +209,29 @@ class TwoRealms:
             self._hear(packet, pair.receiver)
         if is_all:
             self.settle()
+
+    def _note_flow(self, datagram: bytes, pair: Pair) -> None:
+        """Notes what holds for all plain segments with the ends of this one, unless its connection is followed."""
+        port, far_port = PORTS.unpack_from(datagram, 20)
+        if port not in TRACKED and far_port not in TRACKED:
+            if len(self._flows) >= FLOWS:
+                self._flows.clear()
+            self._flows[datagram[12:24]] = pair, f"{far_port}/tcp" if far_port < port else ""
+
+    def _take_again(self, flow: tuple[Pair, str], datagram: bytes, moment: int) -> None:
+        """Takes a further segment of a flow. Most frames are such ones."""
+        (why, hosts, by_use, receiver), served = flow
+        self.oddities.count(datagram, 20, len(datagram) > 40)
+        if why:
+            self.left_out[why] += 1
+            return
+        self.crossed += 1
+        for host in hosts:
+            host.frames += 1
+        if by_use:
+            self.needs.use(by_use, datagram[33], moment)
+        if served and receiver and len(receiver.ports) < 64:
+            receiver.ports[served] += 1
 
     def settle(self) -> None:
         """Chooses pools and aliases for those who are there."""
