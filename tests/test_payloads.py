@@ -456,6 +456,8 @@ class Behind(unittest.TestCase):
             (2000, b"OPTIONS sip:a SIP/2.0", "SIP"),
             (2379, b"GET /v2/members HTTP/1.1\r\n", "etcd"),
             (21, b"GET / HTTP/1.1\r\n", "FTP"),
+            (10000, b"\x16\3\1\2\0\1\0\1\xfc\3\3", "TLS"),
+            (5061, b"\x16\3\1\2\0\1\0\1\xfc\3\3", "SIP over TLS"),
         ):
             self.assertEqual((port, application_of(TCP, 4000, port, message)[0].name), (port, name))
         self.assertEqual(application_of(TCP, 4000, 853, b"\x16\3\1 dns.google")[0].name, "DNS over TLS")

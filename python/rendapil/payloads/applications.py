@@ -297,7 +297,7 @@ def application_of(protocol: int, port: int, far_port: int, payload: bytes) -> t
     if is_tls:
         if RESOLVERS.search(payload) and not (known and known.weight == HIDDEN):
             return BY_NAME["DNS over HTTPS"], server
-        return known if known and known.name != "HTTP" else BY_NAME["TLS"], server
+        return known if known and known.weight == HIDDEN else BY_NAME["TLS"], server
     if not known or known.name in SHARED or (protocol, server) in VAGUE:
         if name := said_in(protocol, payload):
             return BY_NAME[name], server
