@@ -18,7 +18,7 @@ from rendapil.bindings import TCP, UDP, Bindings
 from rendapil.document import document_in
 from rendapil.files import Record
 from rendapil.frames import Event
-from rendapil.packet import Packet
+from rendapil.packet import Packet, is_private
 from rendapil.payloads import kept
 from rendapil.payloads.addresses import Find, may_have_text, octets_in, stun_in, texts_in, words_at
 from rendapil.payloads.applications import APPLICATIONS, application_of
@@ -424,6 +424,14 @@ class Behind(unittest.TestCase):
         for body in (empty, struct.pack(">4H", 0, 8, 256, 0xFFFF) * 4_000):
             self.assertEqual(list(DECODERS["flow records"](b"\0\x09\0\2" + bytes(16) + body + bytes(9_000))), [])
         self.assertLess(time.monotonic() - began, 5)
+
+    def test_random(self) -> None:
+        """Of random octets no decoder makes a private address, where the head of its messages has only few forms."""
+        source = random.Random(13)
+        payloads = [source.randbytes(60) for _ in range(20_000)]
+        for name in ("DHCP", "NetBIOS datagrams", "HSRP", "RIP", "RADIUS", "BACnet", "Mobile IP", "NTP", "KNXnet/IP", "flow records", "Babel, OLSR"):
+            found = [one.address for payload in payloads for one in DECODERS[name](payload)]
+            self.assertEqual((name, [one for one in found if is_private(one)]), (name, []))
 
     def test_proxied(self) -> None:
         """Version 2 of the PROXY protocol stands in front of any application."""

@@ -196,7 +196,7 @@ DHCP_ADDRESSES = {28: LEASE, 92: LEASE, 50: LEASE, 54: LEASE, 3: LEASE, 5: LEASE
 
 def dhcp(payload: bytes) -> Iterator[Find]:
     """The addresses in the head of BOOTP, and in the options that have some (RFC 2131, 2132)."""
-    if len(payload) < 44 or payload[0] not in (1, 2):
+    if len(payload) < 44 or payload[0] not in (1, 2) or payload[2] > 16 or payload[3] > 16:
         return
     for at, field in ((12, LEASE), (16, LEASE), (20, LEASE), (24, RELAY)):
         yield from at_place(payload, at, field)
@@ -227,7 +227,7 @@ RADIUS_ADDRESSES = {4: NAS, 8: NAS, 14: LOGIN, 23: NAS}
 
 def radius(payload: bytes) -> Iterator[Find]:
     """Attributes that are addresses (RFC 2865)."""
-    at = 20
+    at = 20 if 20 <= int.from_bytes(payload[2:4]) <= len(payload) else len(payload)
     while at + 6 <= len(payload) and payload[at + 1] >= 2:
         if payload[at + 1] == 6 and payload[at] in RADIUS_ADDRESSES:
             yield from at_place(payload, at + 2, RADIUS_ADDRESSES[payload[at]])
@@ -295,7 +295,7 @@ def dns_elsewhere(payload: bytes) -> Iterator[Find]:
 
 def netbios_datagram(payload: bytes) -> Iterator[Find]:
     """The sender's address (RFC 1002, 4.4)."""
-    if payload[:1] and payload[0] in range(0x10, 0x17):
+    if len(payload) > 14 and payload[0] in range(0x10, 0x17) and payload[1] < 16 and (payload[14] == 32 or payload[0] > 0x12):
         yield from at_place(payload, 4, SENDER)
 
 
@@ -329,7 +329,7 @@ def bitcoin(payload: bytes) -> Iterator[Find]:
 
 def hsrp(payload: bytes) -> Iterator[Find]:
     """The virtual address, of both versions (RFC 2281)."""
-    if payload[:1] == b"\0" and len(payload) >= 20:
+    if payload[:1] == b"\0" and len(payload) >= 20 and payload[1] < 3 and payload[2] in (0, 1, 2, 4, 8, 16):
         yield from at_place(payload, 16, VIRTUAL)
     elif payload[:3] == b"\x01\x28\x02" and payload[5:6] == b"\x04":
         yield from at_place(payload, 26, VIRTUAL)
@@ -361,7 +361,8 @@ def pcp(payload: bytes) -> Iterator[Find]:
 
 def rip(payload: bytes) -> Iterator[Find]:
     """Routes and their next hops (RFC 2453)."""
-    for at in range(4, min(len(payload), 504) - 19, 20):
+    is_rip = payload[:1] in (b"\1", b"\2") and payload[1:2] in (b"\1", b"\2")
+    for at in range(4, min(len(payload), 504) - 19 if is_rip else 0, 20):
         if payload[at : at + 2] == b"\0\2":
             yield from at_place(payload, at + 4, ROUTE)
             yield from at_place(payload, at + 12, ROUTE)
@@ -370,7 +371,7 @@ def rip(payload: bytes) -> Iterator[Find]:
 def cassandra(payload: bytes) -> Iterator[Find]:
     """Values and events of the kind inet."""
     yield from all_behind(payload, re.compile(rb"\x00\x00\x00\x04"), NODE)
-    if payload[4:5] == b"\x0c":
+    if payload[4:5] == b"\x0c" and payload[0] & 0xF8 == 0x80:
         yield from all_behind(payload, re.compile(rb"(?<=[A-Z])\x04"), NODE)
 
 
