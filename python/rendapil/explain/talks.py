@@ -7,8 +7,8 @@ from rendapil.bindings import TCP, UDP
 from rendapil.frames import PROTOCOLS, Event
 from rendapil.payloads.applications import by_port
 
-TALKS, SHOWN = 20_000, 100
-"""The most conversations that are counted, and that are shown."""
+TALKS, SHOWN, ENDS = 20_000, 100, 4096
+"""The most conversations that are counted and that are shown, and the most ends by which they are found."""
 
 
 @dataclass(slots=True)
@@ -48,7 +48,7 @@ class Talks:
             if not (talk := self._talk(event.side, came, went)):
                 self.more += 1
                 return
-            if len(self._found) >= TALKS:
+            if len(self._found) >= ENDS:
                 self._found.clear()
             self._found[ends] = talk
         talk.frames += 1
