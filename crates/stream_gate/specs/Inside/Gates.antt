@@ -1,6 +1,6 @@
 -- What only proofs and private contracts need beside `Gates`.
-use Rattle.std.specs.Prelude.{◌≡◌, ◌≤◌, ◌<◌, ◌+◌, ◌-◌, ℕ, length}
-use Rattle.tcp_segments.specs.Prelude.{IsTcpHeader, one_if}
+use Rattle.std.specs.Prelude.{◌≤◌, ◌<◌, ◌+◌, ◌-◌, ℕ, List, length}
+use Rattle.tcp_segments.specs.Prelude.{one_if}
 use Rattle.tcp_segments.specs.declared.TheConstants.{MOST_PAYLOAD}
 use Rattle.resegment.specs.declared.put.SegmentModel.{SegmentModel}
 use Rattle.dialogue.specs.Prelude.{Meaning}
@@ -20,14 +20,8 @@ pub record CanPass (own other : CompactSender) (g : Segment) : Type 0 where
   pub place : place_acknowledged (extent_kept other) (arrival g) ≤ other.ledger.octets_out + one_if other.ended
 
 -- the headers and new fields that all datagrams of a segment have
-abbrev pub way_of : SegmentModel → Headers
-way_of m = record { ip = m.ip.now; tcp = m.tcp.now; source = m.source.0; destination = m.destination.0; lifetime = m.lifetime }
-
--- headers that datagrams can have
-pub record HasHeads (m : SegmentModel) : Type 0 where
-  pub ip : length m.ip.now ≡ 20
-  pub tcp : IsTcpHeader m.tcp.now
-  pub options : length m.tcp.now ≤ 60
+abbrev pub headers_by : SegmentModel → Headers
+headers_by m = record { ip = m.ip.now; tcp = m.tcp.now; source = m.source.0; destination = m.destination.0; lifetime = m.lifetime }
 
 -- so much of the image can be copied from the recent octets
 pub record CanCopy (h : CompactSender) (low high : ℕ) : Type 0 where
@@ -36,11 +30,11 @@ pub record CanCopy (h : CompactSender) (low high : ℕ) : Type 0 where
   pub within : high ≤ h.ledger.octets_out
   pub few : high - low ≤ 98304
 
--- its octets can be copied, and cut into pieces each of which fits a datagram
-pub record CanCut (h : CompactSender) (m : SegmentModel) (g : Going) : Type 0 where
+-- its octets can be copied, and cut into pieces each of which fits a datagram behind such a TCP header
+pub record CanCut (h : CompactSender) (tcp : List ℕ) (g : Going) : Type 0 where
   pub copies : CanCopy h g.first g.past
   pub some : 48 ≤ g.limit
-  pub fits : g.limit + (length m.tcp.now - 20) ≤ MOST_PAYLOAD
+  pub fits : g.limit + (length tcp - 20) ≤ MOST_PAYLOAD
 
 -- what goes out for a segment with neither SYN nor RST
 abbrev pub data_kept : Meaning → CompactSender → CompactSender → Segment → Sent

@@ -1,7 +1,8 @@
 use Rattle.std.proofs.Common.{◌≡◌, ◌-◌, ℕ, List, length, map, min, max, sym, ◌∙◌, ap}
 use Rattle.stream_model.specs.Prelude.{Segment, Sent, segment_in, in_pieces, reset_sent, limit_of}
 use Rattle.compact_stream.specs.Prelude.{CompactSender, standing_kept}
-use Rattle.stream_gate.specs.Prelude.{way_of, datagram}
+use Rattle.stream_gate.specs.Prelude.{datagram}
+use Rattle.stream_gate.specs.Gates.{headers_of}
 use Rattle.stream_gate.proofs.gate.pass_reset.Goals as goal
 
 pub returns-clause-out : goal.returns-clause-out
@@ -14,5 +15,5 @@ returns-clause-out g c =
     ∙ ap (λ (n : ℕ). min (max n 88) 65495 - length c.options.result.now) c.mss.ensures
     ∙ ap (λ (xs : List ℕ). min (max other.mss 88) 65495 - length xs) c.options.ensures.octets in
     c.put.ensures
-    ∙ ap (λ (x : Sent). map (datagram (way_of c.args.passing.way.now)) (in_pieces x))
+    ∙ ap (λ (x : Sent). map (datagram (headers_of c.args.passing.model.now c.args.passing.segment.now.header)) (in_pieces x))
     (sym c.going_reset-going.ensures.sent ∙ ap (reset_sent (standing_kept own) (standing_kept other) s) limit)

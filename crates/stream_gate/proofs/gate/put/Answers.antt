@@ -1,14 +1,15 @@
-use Rattle.std.proofs.Common.{◌≡◌, ◌≤◌, ◌<◌, ◌+◌, ◌-◌, ◌*◌, ℕ, length, arith, refl, sym, ◌∙◌, ap}
+use Rattle.std.proofs.Common.{◌≡◌, ◌≤◌, ◌<◌, ◌+◌, ◌-◌, ◌*◌, ℕ, List, length, map, arith, refl, sym, ◌∙◌, ap}
 use Rattle.std.proofs.lemmas.List.FromFn.{length-map-range_with_len}
 use Rattle.std.proofs.lemmas.Bool.{cond-true, cond-false, le-ltb, lt-ltb}
 use Rattle.shift_ledger.specs.Prelude.{octet_walk, copied_by}
 use Rattle.resegment.specs.Pieces.{piece_count}
 use Rattle.resegment.specs.declared.put.SegmentModel.{SegmentModel}
-use Rattle.stream_model.specs.Prelude.{Sent}
+use Rattle.stream_model.specs.Prelude.{Sent, in_pieces}
 use Rattle.stream_model.specs.Goings.{sent_with}
 use Rattle.compact_stream.specs.Prelude.{CompactSender, recent_start, standing_kept}
-use Rattle.stream_gate.specs.Prelude.{way_of}
+use Rattle.stream_gate.specs.Prelude.{datagram}
 use Rattle.stream_gate.specs.Inside.Gates.{CanCut}
+use Rattle.stream_gate.specs.Gates.{headers_of}
 use Rattle.stream_gate.proofs.GateLemmas.{few_pieces, few_octets}
 use Rattle.stream_gate.proofs.Sending.{pieces_sent, bare_sent}
 use Rattle.stream_gate.proofs.gate.put.Given.{Over}
@@ -31,23 +32,23 @@ module _ (g : Over) (c : After-copy_image g) where
 pub put_pieces-requires : goal.put_pieces-requires
 put_pieces-requires g c =
     let a = (goal.at.put_pieces-requires g c).After-copy_image in
-    let cut : CanCut c.args.own.now.kept c.args.way.now c.args.going = c.requires.pieces (omega (arith, c.if-going.true)) in
+    let cut : CanCut c.args.own.now.kept c.args.passing.segment.now.header c.args.going = c.requires.pieces (omega (arith, c.if-going.true)) in
     let count : ℕ = length c.deref.result.now in
     let same : length c.deref.result.now ≡ c.args.going.past - c.args.going.first = ap length c.deref.ensures.value ∙ len g a in
     let most : length c.deref.result.now ≤ 98304 = omega (arith, same, cut.copies.few) in
     let few : piece_count (length c.deref.result.now) c.args.going.limit ≤ 2049 =
     few_pieces (length c.deref.result.now) c.args.going.limit most cut.some in
-    let all : piece_count (length c.deref.result.now) c.args.going.limit * (20 + length c.args.way.now.tcp.now) ≤ 163920 =
-    few_octets (piece_count (length c.deref.result.now) c.args.going.limit) (length c.args.way.now.tcp.now) few c.requires.heads.options in
+    let all : piece_count (length c.deref.result.now) c.args.going.limit * (20 + length c.header.result.now) ≤ 163920 =
+    few_octets (piece_count (length c.deref.result.now) c.args.going.limit) (length c.header.result.now) few c.header.ensures.few in
     record {
       none = c.requires.none;
       can =
           record {
-            ip = c.requires.heads.ip;
-            tcp = c.requires.heads.tcp;
+            ip = c.requires.ip;
+            tcp = c.header.ensures.right;
             ecn = c.requires.ecn;
             some = omega (arith, cut.some);
-            fits = cut.fits;
+            fits = omega (arith, cut.fits, ap length c.header.ensures.octets);
           };
       few = record { pieces = omega (arith, few); octets = omega (arith, most, all) };
     }
@@ -57,7 +58,12 @@ returns-then-going g c =
     let a = (goal.at.returns-then-going g c).After-copy_image in
     let s : Sent = sent_with (standing_kept c.args.own.now.kept) c.args.going in
     let m : SegmentModel =
-    record c.args.way.now {
+    record {
+      ip = c.args.passing.model.now.ip;
+      tcp = c.header.result;
+      source = c.args.passing.model.now.source;
+      destination = c.args.passing.model.now.destination;
+      lifetime = c.args.passing.model.now.lifetime;
       sequence = c.args.going.sequence;
       acknowledgement = c.args.going.acknowledgement;
       flags = c.args.going.flags;
@@ -67,9 +73,11 @@ returns-then-going g c =
     cond-true _ _ _ (lt-ltb c.args.going.first c.args.going.past less) ∙ sym (c.deref.ensures.value ∙ octets g a) in
     c.put_pieces.ensures
     ∙ pieces_sent m s c.deref.result.now refl refl refl all (omega (arith, less, ap length c.deref.ensures.value, len g a))
+    ∙ ap (λ (tcp : List ℕ). map (datagram (headers_of c.args.passing.model.now tcp)) (in_pieces s)) c.header.ensures.octets
 
 pub returns-else-going : goal.returns-else-going
 returns-else-going g c =
     let s : Sent = sent_with (standing_kept c.args.own.now.kept) c.args.going in
     c.put_empty.ensures
-    ∙ sym (bare_sent (way_of c.args.way.now) s (cond-false _ _ _ (le-ltb c.args.going.first c.args.going.past (omega (arith, c.if-going.false)))))
+    ∙ sym (bare_sent (headers_of c.args.passing.model.now c.header.result.now) s (cond-false _ _ _ (le-ltb c.args.going.first c.args.going.past (omega (arith, c.if-going.false)))))
+    ∙ ap (λ (tcp : List ℕ). map (datagram (headers_of c.args.passing.model.now tcp)) (in_pieces s)) c.header.ensures.octets
