@@ -7,8 +7,8 @@ use Rattle.dns_names.specs.declared.suffix.Suffix.{Suffix}
 use Rattle.dns_names.specs.Prelude.{behind, first_label, key_of, EndsAt, Start, found, with_start, starts_in}
 use Rattle.dns_names.specs.Inside.Writers.{place_in, after_in, key_at, HaveOwnPlaces, IsFresh, IsNear, IsPending, Remembers}
 use Rattle.dns_names.specs.declared.ending.Edge.{Edge}
-use Rattle.dns_names.specs.declared.met.Row.{Row}
-use Rattle.dns_names.specs.declared.met.Rows.{Rows}
+use Rattle.dns_names.specs.declared.met.MetSuffix.{MetSuffix}
+use Rattle.dns_names.specs.declared.met.MetSuffixes.{MetSuffixes}
 use Rattle.dns_names.specs.Inside.Longest.{IsClosed, IsEdge}
 use Rattle.dns_names.specs.Inside.Met.{IsRow, AreRows}
 use Rattle.dns_names.proofs.Kept.{IsFresh-later, IsNowhere, after-last, after-more, after-near, found-last, found-more, found-push, found-with_start, label-behind, near_later, near_push, new-front, own-after, own-last, same-key, same-some}
@@ -339,12 +339,12 @@ edge-later starts more new edge is (inl none) = inl none
 edge-later starts more new edge is (inr kept) = inr (ap (λ (x : List Start). found x edge.octets.now) is
     ∙ found-more starts more edge.octets.now edge.place kept)
 
-row-later : (starts more new : List Start) (row : Row) → new ≡ starts ++ more → IsRow starts row → IsRow new row
+row-later : (starts more new : List Start) (row : MetSuffix) → new ≡ starts ++ more → IsRow starts row → IsRow new row
 row-later starts more new row is (inl none) = inl none
 row-later starts more new row is (inr kept) = inr (ap (λ (x : List Start). found x row.octets.now) is
     ∙ found-more starts more row.octets.now row.place kept)
 
-pub rows-later : (starts more new : List Start) (rows : Rows) → new ≡ starts ++ more → AreRows starts rows → AreRows new rows
+pub rows-later : (starts more new : List Start) (rows : MetSuffixes) → new ≡ starts ++ more → AreRows starts rows → AreRows new rows
 rows-later starts more new rows is all = record {
   short = row-later starts more new rows.short is all.short;
   long = λ k d lt. row-later starts more new (slice_index_or rows.long.items k d) is (all.long k d lt);

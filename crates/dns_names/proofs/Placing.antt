@@ -13,7 +13,7 @@ use Rattle.std.proofs.lemmas.Map.Text.{is_eq-slice_cmp}
 use Rattle.std.proofs.lemmas.Slice.Eq.{bytes_eq-Decides}
 use Rattle.dns_names.specs.declared.suffix.Suffix.{Suffix}
 use Rattle.dns_names.specs.Prelude.{key, Start, starts_in}
-use Rattle.dns_names.specs.Inside.Places.{AreAbove, AreBelow, Enters, IsBelow, Rises}
+use Rattle.dns_names.specs.Inside.Targets.{AreAbove, AreBelow, Enters, IsBelow, Rises}
 use Rattle.dns_names.specs.Inside.Writers.{put_start, place_in, IsNear, Remembers}
 use Rattle.dns_names.proofs.Kept.{apart}
 

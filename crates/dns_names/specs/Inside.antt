@@ -6,5 +6,5 @@ pub mod Met
 pub mod Names
 pub mod Octets
 pub mod Pieces
-pub mod Places
+pub mod Targets
 pub mod Writers

@@ -5,10 +5,10 @@ ghost use Rattle.dns_names.specs.Inside.Longest.{IsClosed, IsEdge, IsLongest};
 ghost use Rattle.dns_names.specs.Inside.Met.{AreRows};
 ghost use Rattle.dns_names.specs.Inside.Writers.{starts_in, place_in, FindsBy};
 
-use crate::met::{Rows, Steps};
-use crate::places::{Places, ROOT};
+use crate::met::{MetSuffixes, Steps};
 use crate::reverse::behind_label;
 use crate::suffix::Suffix;
+use crate::targets::{ROOT, Targets};
 
 /// A suffix that can be pointed to, while its rest can't, and its place. Without octets there is none.
 #[derive(Clone, Copy)]
@@ -17,7 +17,7 @@ pub struct Edge<'a> {
     pub(crate) place: u16,
 }
 
-fn place_of<'a>(places: &Places<'a>, octets: &'a [u8], behind: u16) -> Option<u16>
+fn place_of<'a>(places: &Targets<'a>, octets: &'a [u8], behind: u16) -> Option<u16>
     ensures { result ≡ place_in places.now (key_of behind octets.now) }
 {
     places.get(&Suffix::new(octets, behind))
@@ -29,9 +29,9 @@ fn place_of<'a>(places: &Places<'a>, octets: &'a [u8], behind: u16) -> Option<u1
 /// The name is gone through from its end: behind each label either nothing can be written before that wasn't, or what stands there is
 /// known, and the label is sought in front of that. A suffix that was met before is known by the place of its first label in the message.
 pub(crate) fn longest<'a>(
-    places: &Places<'a>,
+    places: &Targets<'a>,
     edge: Edge<'a>,
-    rows: &mut Rows<'a>,
+    rows: &mut MetSuffixes<'a>,
     name: &'a [u8],
     steps: Steps<'_>,
 ) -> (usize, Option<u16>)

@@ -4,18 +4,18 @@
 
 mod ending;
 mod known;
+mod label_places;
 mod laws;
 mod memo;
 mod met;
 mod name;
 mod piece;
-mod places;
 mod reader;
 mod reverse;
 mod stop;
 mod suffix;
+mod targets;
 mod walk;
-mod way;
 mod writer;
 
 pub use laws::{found_is_lowest, names_read_back, one_name};

@@ -4,10 +4,10 @@ ghost use Rattle.dns_names.specs.Names.{NameAt};
 ghost use Rattle.dns_names.specs.Inside.Memo.{octets_of, IsMemo, Here};
 
 use crate::known::{Known, UNKNOWN, before, put};
+use crate::label_places::LabelPlaces;
 use crate::name::Name;
 use crate::stop::NameStop;
 use crate::walk::walk;
-use crate::way::Way;
 use crate::{LONGEST_MESSAGE, POINTED};
 use gate_base::OutOfMemory;
 use std::alloc::{AllocError, Global};
@@ -80,7 +80,12 @@ fn note(labels: &mut Vec<u16>, message: &[u8], place: u16) {
 }
 
 /// What is known at a place from which a name is read. The same is put down for the places on its way.
-fn find(message: &[u8], memo: &mut Memo, place: usize, way: &mut Way) -> Result<Known, NameStop>
+fn find(
+    message: &[u8],
+    memo: &mut Memo,
+    place: usize,
+    way: &mut LabelPlaces,
+) -> Result<Known, NameStop>
     requires { IsMemo message.now memo.old }
     ensures memo { IsMemo message.now memo.new }
     ensures found { IfOk result (λ k. Here message.now memo.new.kept.items place k) }
@@ -117,7 +122,7 @@ pub(crate) fn read_on(
         → NameAt message.now place labels after
         → ⊥ }
 {
-    let mut way = Way::short(alloc);
+    let mut way = LabelPlaces::short(alloc);
     let known = find(message, memo, place, &mut way)?;
     let end = known.from + known.count as usize;
     let octets = Vec::from_slice(alloc, &memo.kept[known.from..end])?;

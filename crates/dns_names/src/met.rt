@@ -4,53 +4,53 @@ ghost use Rattle.dns_names.specs.Spelling.{Start, found};
 ghost use Rattle.dns_names.specs.Inside.Met.{IsRow, AreRows};
 
 use crate::POINTED;
-use crate::way::{NOWHERE, SHORT, Way};
+use crate::label_places::{LabelPlaces, NOWHERE, SHORT};
 use std::alloc::Global;
 
 /// A suffix that was met in a message, the lowest place at which it stands written, and the place of the label behind its first one in
 /// that message. Without octets, no place is known.
 #[derive(Clone, Copy)]
-pub struct Row<'a> {
+pub struct MetSuffix<'a> {
     pub(crate) octets: &'a [u8],
     pub(crate) place: u16,
     pub(crate) next: u16,
 }
 
-fn row_without_place<'a>(next: u16) -> Row<'a>
+fn row_without_place<'a>(next: u16) -> MetSuffix<'a>
     ensures { (starts : List Start) → IsRow starts result }
 {
-    Row {
+    MetSuffix {
         octets: &[],
         place: 0,
         next,
     }
 }
 
-fn no_row<'a>() -> Row<'a>
+fn no_row<'a>() -> MetSuffix<'a>
     ensures { (starts : List Start) → IsRow starts result }
 {
     row_without_place(NOWHERE)
 }
 
-/// Rows by the places of labels. All names of a short message, and all copies, have `SHORT` in place of these.
+/// MetSuffixes by the places of labels. All names of a short message, and all copies, have `SHORT` in place of these.
 #[derive(Drop)]
-pub struct Rows<'a> {
-    pub(crate) short: Row<'a>,
-    pub(crate) long: Vec<Row<'a>>,
+pub struct MetSuffixes<'a> {
+    pub(crate) short: MetSuffix<'a>,
+    pub(crate) long: Vec<MetSuffix<'a>>,
 }
 
-impl<'a> Rows<'a> {
+impl<'a> MetSuffixes<'a> {
     /// Nothing was met yet.
-    pub(crate) fn new(alloc: Global) -> Rows<'a>
+    pub(crate) fn new(alloc: Global) -> MetSuffixes<'a>
         ensures { (starts : List Start) → AreRows starts result }
     {
-        Rows {
+        MetSuffixes {
             short: no_row(),
             long: Vec::new(alloc),
         }
     }
 
-    fn at(&self, origin: u16) -> Option<Row<'a>>
+    fn at(&self, origin: u16) -> Option<MetSuffix<'a>>
         ensures { (starts : List Start) → AreRows starts self.now → IfSome result (IsRow starts) }
     {
         if origin == SHORT {
@@ -74,7 +74,7 @@ impl<'a> Rows<'a> {
         }
     }
 
-    fn set(&mut self, origin: u16, row: Row<'a>)
+    fn set(&mut self, origin: u16, row: MetSuffix<'a>)
         ensures { (starts : List Start)
             → AreRows starts self.old
             → IsRow starts row.entry
@@ -104,7 +104,7 @@ impl<'a> Rows<'a> {
     {
         let row = if place < POINTED {
             let place = place as u16;
-            Row {
+            MetSuffix {
                 octets,
                 place,
                 next,
@@ -124,7 +124,7 @@ pub(crate) struct Steps<'w> {
 }
 
 impl<'w> Steps<'w> {
-    pub(crate) fn of(way: &'w Way) -> Steps<'w> {
+    pub(crate) fn of(way: &'w LabelPlaces) -> Steps<'w> {
         Steps {
             new: &way.new,
             joined: way.joined,
@@ -140,7 +140,7 @@ impl<'w> Steps<'w> {
     }
 
     /// The steps behind the first label.
-    pub(crate) fn behind(&self, rows: &Rows) -> Steps<'w> {
+    pub(crate) fn behind(&self, rows: &MetSuffixes) -> Steps<'w> {
         if let Some((_, new)) = self.new.split_last() {
             return Steps {
                 new,

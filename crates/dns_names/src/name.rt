@@ -4,9 +4,9 @@ ghost use Rattle.dns_names.specs.Names.{NameAt};
 ghost use Rattle.dns_names.specs.Walk.{name_at};
 ghost use Rattle.dns_names.specs.Stops.{ReturnsRead};
 
+use crate::label_places::LabelPlaces;
 use crate::piece::{PieceAt, piece_at};
 use crate::stop::NameStop;
-use crate::way::Way;
 use gate_base::OutOfMemory;
 use std::alloc::Global;
 use std::marker::Model;
@@ -16,7 +16,7 @@ use std::marker::Model;
 #[derive(Drop)]
 pub struct Name {
     pub(crate) octets: Vec<u8>,
-    pub(crate) way: Way,
+    pub(crate) way: LabelPlaces,
 }
 
 impl Model for Name {
@@ -47,7 +47,7 @@ impl Name {
         ensures same { IfOk result (λ name. name ≡ self.now) }
         ensures name { IsName self.now }
     {
-        let way = Way::short(alloc);
+        let way = LabelPlaces::short(alloc);
         let octets = Vec::from_slice(alloc, &self.octets)?;
         Ok(Name { octets, way })
     }
@@ -68,7 +68,7 @@ pub(crate) fn name_of(
         → NameAt message.now place labels after
         → ⊥ }
 {
-    let way = Way::short(alloc);
+    let way = LabelPlaces::short(alloc);
     let mut octets = Vec::with_capacity(alloc, ROOM)?;
     let mut start = place;
     let mut at = place;

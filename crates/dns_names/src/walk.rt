@@ -5,9 +5,9 @@ ghost use Rattle.dns_names.specs.Inside.Memo.{AreKnown, Joins};
 ghost use Rattle.dns_names.specs.declared.TheConstants.{LONGEST_MESSAGE};
 
 use crate::known::{Known, known_at};
+use crate::label_places::NOWHERE;
 use crate::piece::{PieceAt, piece_at};
 use crate::stop::NameStop;
-use crate::way::NOWHERE;
 use std::alloc::AllocError;
 
 /// Whether a name may end with what is known at a place, if it has this start there and so many octets before it.

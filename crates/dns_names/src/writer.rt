@@ -10,10 +10,10 @@ ghost use Rattle.dns_names.specs.Inside.Writers.{starts_in, place_in, key_at, Gr
 
 use crate::POINTED;
 use crate::ending::{Edge, longest};
-use crate::met::{Rows, Steps};
+use crate::met::{MetSuffixes, Steps};
 use crate::name::Name;
-use crate::places::{Places, ROOT};
 use crate::suffix::Suffix;
+use crate::targets::{ROOT, Targets};
 use gate_base::{OutOfMemory, put_u16};
 use std::alloc::AllocError;
 use std::marker::Model;
@@ -23,7 +23,7 @@ const FAR: u16 = u16::MAX - 1;
 
 /// Keeps the place of a label start, if a pointer can lead there.
 fn remember<'a>(
-    places: &mut Places<'a>,
+    places: &mut Targets<'a>,
     octets: &'a [u8],
     behind: u16,
     place: usize,
@@ -104,9 +104,9 @@ fn put_end(out: &mut Vec<u8>, place: Option<u16>) -> Result<(), AllocError>
 /// Writes a name, and keeps its label starts. The answer is the new edge.
 #[tactic(auto, using(crate::proofs::Putting::grew_none, crate::proofs::Putting::grew_octets))]
 fn put_labels<'a>(
-    places: &mut Places<'a>,
+    places: &mut Targets<'a>,
     edge: Edge<'a>,
-    rows: &mut Rows<'a>,
+    rows: &mut MetSuffixes<'a>,
     name: &'a [u8],
     steps: Steps<'_>,
     out: &mut Vec<u8>,
@@ -162,10 +162,10 @@ fn put_labels<'a>(
 #[derive(Drop)]
 pub struct NameWriter<'a> {
     octets: Vec<u8>,
-    places: Places<'a>,
+    places: Targets<'a>,
     // the suffix behind whose first label the rest may not stand in `places` (`IsClosed`); None after a name that failed
     edge: Option<Edge<'a>>,
-    rows: Rows<'a>,
+    rows: MetSuffixes<'a>,
 }
 
 impl<'a> Model for NameWriter<'a> {
@@ -202,12 +202,12 @@ impl<'a> NameWriter<'a> {
         let alloc = *target.allocator();
         Ok(NameWriter {
             octets: target,
-            places: Places::new(alloc),
+            places: Targets::new(alloc),
             edge: Some(Edge {
                 octets: &[],
                 place: 0,
             }),
-            rows: Rows::new(alloc),
+            rows: MetSuffixes::new(alloc),
         })
     }
 

@@ -4,7 +4,7 @@ ghost use Rattle.expiring_table.specs.Inside.Buckets.{bucket_in};
 ghost use Rattle.expiring_table.specs.Inside.Chained.{IsLast, IsNext, without_place, emptied, with_place, no_places};
 
 use crate::buckets::bucket_in;
-use crate::link::Link;
+use crate::place_or_none::PlaceOrNone;
 use crate::seed::Seed;
 use std::alloc::{AllocError, Global};
 use std::marker::Model;
@@ -15,11 +15,11 @@ use std::marker::Model;
 pub struct Chains {
     seed: Seed,
     // the last place in each bucket
-    heads: Vec<Link>,
+    heads: Vec<PlaceOrNone>,
     // the bucket of each place
     buckets: Vec<u32>,
     // the last earlier place in the same bucket
-    previous: Vec<Link>,
+    previous: Vec<PlaceOrNone>,
 }
 
 impl Model for Chains {
@@ -42,7 +42,7 @@ impl Chains {
     {
         Ok(Chains {
             seed,
-            heads: vec![in alloc; Link::none(); width]?,
+            heads: vec![in alloc; PlaceOrNone::none(); width]?,
             buckets: Vec::with_capacity(alloc, room)?,
             previous: Vec::with_capacity(alloc, room)?,
         })
@@ -92,7 +92,7 @@ impl Chains {
         let place = self.buckets.len();
         let head = bucket as usize;
         self.previous.push_reserved(self.heads[head]);
-        self.heads[head] = Link::to(place);
+        self.heads[head] = PlaceOrNone::to(place);
         self.buckets.push_reserved(bucket);
     }
 
@@ -139,6 +139,6 @@ impl Chains {
         self.seed = seed;
         self.buckets.clear();
         self.previous.clear();
-        self.heads.fill(Link::none());
+        self.heads.fill(PlaceOrNone::none());
     }
 }

@@ -5,7 +5,7 @@
 mod alarms;
 mod buckets;
 mod chains;
-mod link;
+mod place_or_none;
 mod row;
 mod rows;
 mod seed;

@@ -60,11 +60,11 @@ struct Numbered {
 
 // Places of sorted rules.
 #[derive(Drop)]
-struct Places {
+struct RulePlaces {
     items: Vec<usize>,
 }
 
-impl Model for Places {
+impl Model for RulePlaces {
     ghost use Rattle.std.specs.Prelude.{ℕ, List};
 
     ghost Value = { List ℕ };
@@ -72,7 +72,7 @@ impl Model for Places {
     ghost view = { λ places. places.items.items };
 }
 
-impl Places {
+impl RulePlaces {
     fn items(&self) -> &[usize]
         ensures { result.now ≡ self.now }
     {
@@ -88,7 +88,7 @@ pub struct SortedRules {
     // for each sorted rule the last one before it with whose arcs it begins
     outer: Vec<Option<usize>>,
     // for each sorted rule those that are tried where an identifier begins with it
-    tried: Vec<Places>,
+    tried: Vec<RulePlaces>,
 }
 
 impl Model for SortedRules {
@@ -175,11 +175,11 @@ fn sorted(alloc: Global, rules: &[OidRule]) -> Result<Vec<Numbered>, OutOfMemory
 
 // The arcs of a rule as those of an identifier in which nothing is named.
 #[derive(Drop)]
-struct Given<'a> {
+struct PlainArcs<'a> {
     arcs: &'a [u32],
 }
 
-impl<'a> Addresses for Given<'a> {
+impl<'a> Addresses for PlainArcs<'a> {
     ghost use Rattle.std.specs.Prelude.{None};
 
     ghost address_by = { λ given place. None };
@@ -189,18 +189,18 @@ impl<'a> Addresses for Given<'a> {
     }
 }
 
-impl<'a> Identifier for Given<'a> {
+impl<'a> Identifier for PlainArcs<'a> {
     ghost use Rattle.std.specs.Prelude.{Some};
 
     ghost arcs_of = { λ given. Some given.arcs.now };
 
-    type Read = Given<'a>;
+    type Read = PlainArcs<'a>;
 
     fn compare(&self, rule: &OidRule) -> Compared {
         compare_arcs(self.arcs, rule.prefix.items())
     }
 
-    fn read(&self) -> Option<Given<'a>> {
+    fn read(&self) -> Option<PlainArcs<'a>> {
         None
     }
 }
@@ -229,7 +229,7 @@ fn outer_of(alloc: Global, sorted: &[Numbered]) -> Result<Vec<Option<usize>>, Ou
 {
     let mut outer = Vec::with_capacity(alloc, sorted.len())?;
     for one in sorted {
-        let given = Given {
+        let given = PlainArcs {
             arcs: one.rule.prefix.items(),
         };
         outer.push(last_begun(sorted, &outer, &given))?;
@@ -311,7 +311,7 @@ fn tried_of(
     alloc: Global,
     sorted: &[Numbered],
     outer: &[Option<usize>],
-) -> Result<Vec<Places>, OutOfMemory>
+) -> Result<Vec<RulePlaces>, OutOfMemory>
     requires order { InOrder sorted.now }
     requires rules { AllRules sorted.now }
     requires outer { AreOuter sorted.now outer.now }
@@ -331,9 +331,9 @@ fn tried_at(
     alloc: Global,
     sorted: &[Numbered],
     outer: &[Option<usize>],
-    tried: &[Places],
+    tried: &[RulePlaces],
     at: usize,
-) -> Result<Places, OutOfMemory>
+) -> Result<RulePlaces, OutOfMemory>
     requires order { InOrder sorted.now }
     requires rules { AllRules sorted.now }
     requires outer { AreOuter sorted.now outer.now }
@@ -355,7 +355,7 @@ fn with_rule(
     sorted: &[Numbered],
     places: &[usize],
     one: usize,
-) -> Result<Places, OutOfMemory>
+) -> Result<RulePlaces, OutOfMemory>
     requires rules { AllRules sorted.now }
     requires places { AreWithin sorted.now places.now }
     requires one { one < length sorted.now }
@@ -371,7 +371,7 @@ fn with_rule(
         }
     }
     more.push(best)?;
-    Ok(Places { items: more })
+    Ok(RulePlaces { items: more })
 }
 
 fn before_at(sorted: &[Numbered], place: usize) -> usize
@@ -399,7 +399,7 @@ fn earlier_of(sorted: &[Numbered], place: usize, other: usize) -> usize
 fn first_of<'a, I: Identifier>(
     sorted: &'a [Numbered],
     outer: &[Option<usize>],
-    tried: &[Places],
+    tried: &[RulePlaces],
     identifier: &I,
 ) -> Option<(&'a OidRule, Addr)>
     requires order { InOrder sorted.now }

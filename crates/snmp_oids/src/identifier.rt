@@ -43,17 +43,17 @@ fn named_in(content: &[u8], rules: &SortedRules) -> Option<(usize, Addr)>
     ensures value { option_map (λ p. (p.0, p.1.0)) result
         ≡ named_in rules.now content.now }
 {
-    let (rule, address) = rules.first(&Content { octets: content })?;
+    let (rule, address) = rules.first(&OidContent { octets: content })?;
     Some((rule.prefix.items().len() + rule.skip as usize, address))
 }
 
 // The content of an OBJECT IDENTIFIER.
 #[derive(Drop)]
-struct Content<'a> {
+struct OidContent<'a> {
     octets: &'a [u8],
 }
 
-impl<'a> Addresses for Content<'a> {
+impl<'a> Addresses for OidContent<'a> {
     ghost use Rattle.std.specs.Prelude.{drop, option_and_then};
     ghost use Rattle.snmp_oids.specs.Arcs.{arcs_of, address_of};
 
@@ -64,7 +64,7 @@ impl<'a> Addresses for Content<'a> {
     }
 }
 
-impl<'a> Identifier for Content<'a> {
+impl<'a> Identifier for OidContent<'a> {
     ghost use Rattle.snmp_oids.specs.Arcs.{arcs_of};
 
     ghost arcs_of = { λ content. arcs_of content.octets.now };

@@ -2,7 +2,7 @@ use Rattle.std.proofs.Common.{◌≡◌, ◌∙◌, None, rules, sym}
 use Rattle.dns_names.specs.Inside.Ends.{key}
 use Rattle.dns_names.specs.Inside.Writers.{place_in}
 use Rattle.dns_names.proofs.Placing.{place-none, place-some}
-use Rattle.dns_names.proofs.places.place_behind.Goals as goal
+use Rattle.dns_names.proofs.targets.place_behind.Goals as goal
 
 pub returns-in-Some : goal.returns-in-Some
 returns-in-Some c = sym (place-some c.args.rising.now c.args.others.now.entries (key c.args.suffix.now) c.in-Some.place

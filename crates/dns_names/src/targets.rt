@@ -1,7 +1,7 @@
 // The suffixes that were written, each found by its key.
 ghost use Rattle.std.specs.Prelude.{◌≡◌, ◌<◌, ◌++◌, ◌∷◌, [], true, length, OnOk, OnErr};
 ghost use Rattle.dns_names.specs.Inside.Ends.{key};
-ghost use Rattle.dns_names.specs.Inside.Places.{Rises, Enters, one_at_most};
+ghost use Rattle.dns_names.specs.Inside.Targets.{Rises, Enters, one_at_most};
 ghost use Rattle.dns_names.specs.Inside.Writers.{place_in};
 
 use crate::suffix::Suffix;
@@ -16,7 +16,7 @@ pub(crate) const ROOT: u16 = u16::MAX;
 /// come in the order of the places behind their first labels. These are in a list. The first one that is a label alone has a field of its
 /// own, and the others are in a tree.
 #[derive(Drop)]
-pub struct Places<'a> {
+pub struct Targets<'a> {
     pub(crate) last: Option<(Suffix<'a>, u16)>,
     pub(crate) rising: Vec<(Suffix<'a>, u16)>,
     // above each place behind a first label in the list
@@ -24,10 +24,10 @@ pub struct Places<'a> {
     pub(crate) others: BTreeMap<Suffix<'a>, u16>,
 }
 
-impl<'a> Model for Places<'a> {
+impl<'a> Model for Targets<'a> {
     ghost use Rattle.std.specs.Prelude.{◌++◌, ℕ, List};
     ghost use Rattle.dns_names.specs.declared.suffix.Suffix.{Suffix};
-    ghost use Rattle.dns_names.specs.Inside.Places.{one_at_most, Rises, AreBelow};
+    ghost use Rattle.dns_names.specs.Inside.Targets.{one_at_most, Rises, AreBelow};
 
     ghost Value = { List (Suffix × ℕ) };
 
@@ -106,12 +106,12 @@ fn place_behind<'a>(
     }
 }
 
-impl<'a> Places<'a> {
+impl<'a> Targets<'a> {
     /// Nothing was written.
-    pub(crate) fn new(alloc: Global) -> Places<'a>
+    pub(crate) fn new(alloc: Global) -> Targets<'a>
         ensures { result ≡ [] }
     {
-        Places {
+        Targets {
             last: None,
             rising: Vec::new(alloc),
             next: 0,

@@ -1,7 +1,7 @@
 use Rattle.std.proofs.Common.{◌∙◌, ◌<◌, inl, inr, nat_lt, arith, rules, sym}
 use Rattle.std.proofs.lemmas.Bool.{cases_Bool, ltb-true, ltb-false}
 use Rattle.dns_names.proofs.Placing.{before-all, halved}
-use Rattle.dns_names.proofs.places.place_among.Goals as goal
+use Rattle.dns_names.proofs.targets.place_among.Goals as goal
 
 pub returns-then-branch : goal.returns-then-branch
 returns-then-branch c =

@@ -9,26 +9,26 @@ pub(crate) const SHORT: u16 = 0;
 
 /// The places of a name's labels that no name before it led to, the last one first, and the place of the label behind them.
 #[derive(Drop)]
-pub struct Way {
+pub struct LabelPlaces {
     pub(crate) new: Vec<u16>,
     pub(crate) joined: u16,
 }
 
-impl Way {
+impl LabelPlaces {
     /// The way of a name of a short message, or of a copy.
-    pub(crate) fn short(alloc: Global) -> Way {
-        Way {
+    pub(crate) fn short(alloc: Global) -> LabelPlaces {
+        LabelPlaces {
             new: Vec::new(alloc),
             joined: SHORT,
         }
     }
     /// The way of a name that goes out for this one: only its first label has a place.
-    pub(crate) fn of_image(&self, alloc: Global) -> Way {
+    pub(crate) fn of_image(&self, alloc: Global) -> LabelPlaces {
         let joined = match self.new.last() {
             Some(place) => *place,
             None => self.joined,
         };
-        Way {
+        LabelPlaces {
             new: Vec::new(alloc),
             joined,
         }

@@ -1,8 +1,8 @@
 use Rattle.std.proofs.Common.{◌≡◌, ◌+◌, ◌≤◌, ◌∙◌, ◌++◌, ◌∷◌, [], ℕ, List, Option, None, append_assoc, ap, arith, rules, sym}
 use Rattle.dns_names.specs.declared.suffix.Suffix.{Suffix}
-use Rattle.dns_names.specs.Inside.Places.{AreBelow, Rises, one_at_most}
+use Rattle.dns_names.specs.Inside.Targets.{AreBelow, Rises, one_at_most}
 use Rattle.dns_names.proofs.Placing.{below-later, below-push, enters-behind, enters-here, enters-tree, rises-push}
-use Rattle.dns_names.proofs.places.Places.insert.Goals as goal
+use Rattle.dns_names.proofs.targets.Targets.insert.Goals as goal
 
 pub invariant_of-self-then-self-behind : goal.invariant_of-self-then-self-behind
 invariant_of-self-then-self-behind c =

@@ -1,9 +1,9 @@
 use Rattle.std.proofs.Common.{◌≡◌, ◌∙◌, ◌++◌, None, sym}
 use Rattle.dns_names.specs.Inside.Ends.{key}
-use Rattle.dns_names.specs.Inside.Places.{one_at_most}
+use Rattle.dns_names.specs.Inside.Targets.{one_at_most}
 use Rattle.dns_names.specs.Inside.Writers.{place_in}
 use Rattle.dns_names.proofs.Placing.{place-none, place-some}
-use Rattle.dns_names.proofs.places.Places.get.Goals as goal
+use Rattle.dns_names.proofs.targets.Targets.get.Goals as goal
 
 pub returns-in-Some : goal.returns-in-Some
 returns-in-Some c = rw (← c.self.view_is) (sym (place-some (one_at_most c.self.inside.last)

@@ -5,9 +5,9 @@ use std::marker::Model;
 
 /// A place, or none, in 32 bits.
 #[derive(Clone, Copy)]
-pub(crate) struct Link(u32);
+pub(crate) struct PlaceOrNone(u32);
 
-impl Model for Link {
+impl Model for PlaceOrNone {
     ghost use Rattle.std.specs.Prelude.{ℕ, Option, ◌==◌, ◌-◌, ◌^◌, if◌then◌else◌, None, Some};
     ghost use Rattle.std.specs.Option.{unwrap_or};
     ghost use Rattle.std.proofs.Common.{rules};
@@ -22,20 +22,20 @@ impl Model for Link {
     ghost inverse_ok = { λ link _. Prim.grind (rules) };
 }
 
-impl Link {
+impl PlaceOrNone {
     /// The link to no place.
-    pub(crate) fn none() -> Link
+    pub(crate) fn none() -> PlaceOrNone
         ensures { result ≡ None }
     {
-        Link(u32::MAX)
+        PlaceOrNone(u32::MAX)
     }
 
     /// The link to a place.
-    pub(crate) fn to(place: usize) -> Link
+    pub(crate) fn to(place: usize) -> PlaceOrNone
         requires { place < 2 ^ 32 - 1 }
         ensures { result ≡ Some place }
     {
-        Link(place as u32)
+        PlaceOrNone(place as u32)
     }
 
     /// The place, if there is one.
