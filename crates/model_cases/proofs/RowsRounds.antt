@@ -17,6 +17,7 @@ use Rattle.gate_model.specs.Remembered.{RememberedSession, remembering_rules}
 use Rattle.gate_model.specs.Rounds.{FrameRound, at_answer, repeated, answered, IsFrameRound, AllFrameRounds}
 use Rattle.gate_model.specs.Step.{taker_in}
 use Rattle.gate_model.specs.Stream.{segment_of}
+use Rattle.gate_model.specs.Taken.{TakesSegment}
 use Rattle.gate_model.specs.Verdict.{verdict}
 use Rattle.gate_model.specs.World.{at_moment}
 use Rattle.gate_model.proofs.RowWords.{hex, fixed, pool, set, event}
@@ -131,3 +132,7 @@ a_round = record {
 
 rounds : AllFrameRounds Client world t 0 0 (round ∷ [])
 rounds = (a_round, tt)
+
+-- the session takes the line's segment, which is data: what `going` asks, of a world that a run made
+goes_on : TakesSegment remembering_rules world line t × HasDataSegment line
+goes_on = (a_round.takes, line_data)
