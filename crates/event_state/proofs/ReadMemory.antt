@@ -12,7 +12,7 @@ use Rattle.gate_model.specs.Reading.{Both}
 use Rattle.gate_model.proofs.ReadWorlds.{found_as, holder_as, later_as, moment_as, units_as}
 use Rattle.gate_model.proofs.Related.{both_rules, first_reads, second_reads}
 use Rattle.event_segments.specs.Prelude.{CompletesUnit, refusal_as}
-use Rattle.event_state.specs.Lost.{MayWantInside, SegmentMayWant, MayWantAs, MayWant}
+use Rattle.event_state.specs.Lost.{SessionMayWant, SegmentMayWant, KindMayWant, EventMayWant}
 
 -- ## A segment
 
@@ -46,7 +46,7 @@ read_from {B = B} f (Some x) y e = record { from = x; there = refl; same = ap (�
 inside_on : {S T : Type 0} (h : S → T) (a : SessionRules S) (b : SessionRules T) → Reads h a b
     → (P : Host → S → Segment → Type 0) (Q : Host → T → Segment → Type 0)
     → ((from : Host) (s : S) (g : Segment) → a.refusal from s g ≡ None → P from s g → Q from (h s) g)
-    → (live : World S) (side : Side) (d : Datagram) → MayWantInside a P live side d → MayWantInside b Q (world_as h live) side d
+    → (live : World S) (side : Side) (d : Datagram) → SessionMayWant a P live side d → SessionMayWant b Q (world_as h live) side d
 inside_on h a b r P Q on live side d m =
     let t = m.tracked in
     record {
@@ -75,7 +75,7 @@ segment_on h a b r P Q on live side d (inr c) = inr (unit_on h a b r live side d
 needs_on : {S T : Type 0} (h : S → T) (a : SessionRules S) (b : SessionRules T) → Reads h a b
     → (P : Host → S → Segment → Type 0) (Q : Host → T → Segment → Type 0)
     → ((from : Host) (s : S) (g : Segment) → a.refusal from s g ≡ None → P from s g → Q from (h s) g)
-    → (kind : Kind) (live : World S) (side : Side) (d : Datagram) → MayWantAs a P kind live side d → MayWantAs b Q kind (world_as h live) side d
+    → (kind : Kind) (live : World S) (side : Side) (d : Datagram) → KindMayWant a P kind live side d → KindMayWant b Q kind (world_as h live) side d
 needs_on h a b r P Q on kind live side d (inl dns) = inl dns
 needs_on h a b r P Q on kind live side d (inr (stream, wants)) = inr (stream, segment_on h a b r P Q on live side d wants)
 
@@ -83,16 +83,16 @@ needs_on h a b r P Q on kind live side d (inr (stream, wants)) = inr (stream, se
 pub memory_as : {S T : Type 0} (h : S → T) (a : SessionRules S) (b : SessionRules T) → Reads h a b
     → (P : Host → S → Segment → Type 0) (Q : Host → T → Segment → Type 0)
     → ((from : Host) (s : S) (g : Segment) → a.refusal from s g ≡ None → P from s g → Q from (h s) g)
-    → (w : World S) (e : Event) → MayWant a P (at_moment w e.moment) e → MayWant b Q (at_moment (world_as h w) e.moment) e
+    → (w : World S) (e : Event) → EventMayWant a P (at_moment w e.moment) e → EventMayWant b Q (at_moment (world_as h w) e.moment) e
 memory_as {T = T} h a b r P Q on w e m =
-    subst (λ (x : World T). MayWant b Q x e) (sym (moment_as h w e.moment))
+    subst (λ (x : World T). EventMayWant b Q x e) (sym (moment_as h w e.moment))
     (record { early = m.early; needs = needs_on h a b r P Q on (kind_of (datagram_in e)) (at_moment w e.moment) e.side (datagram_in e) m.needs })
 
 -- ## And back
 
 inside_from : {S T : Type 0} (h : S → T) (a : SessionRules S) (b : SessionRules T) → Reads h a b
     → (Q : Host → T → Segment → Type 0) (live : World S) (side : Side) (d : Datagram)
-    → MayWantInside b Q (world_as h live) side d → MayWantInside a (λ from s g. Q from (h s) g) live side d
+    → SessionMayWant b Q (world_as h live) side d → SessionMayWant a (λ from s g. Q from (h s) g) live side d
 inside_from {T = T} h a b r Q live side d m =
     let x = read_from (tracked_as h) (session_in (found_in live side d)) m.tracked (sym (holder_as h live side d) ∙ m.found) in
     let t = x.from in
@@ -126,15 +126,15 @@ segment_from h a b r Q live side d (inr c) = inr (unit_from h a b r live side d 
 
 needs_from : {S T : Type 0} (h : S → T) (a : SessionRules S) (b : SessionRules T) → Reads h a b
     → (Q : Host → T → Segment → Type 0) (kind : Kind) (live : World S) (side : Side) (d : Datagram)
-    → MayWantAs b Q kind (world_as h live) side d → MayWantAs a (λ from s g. Q from (h s) g) kind live side d
+    → KindMayWant b Q kind (world_as h live) side d → KindMayWant a (λ from s g. Q from (h s) g) kind live side d
 needs_from h a b r Q kind live side d (inl dns) = inl dns
 needs_from h a b r Q kind live side d (inr (stream, wants)) = inr (stream, segment_from h a b r Q live side d wants)
 
 memory_from : {S T : Type 0} (h : S → T) (a : SessionRules S) (b : SessionRules T) → Reads h a b
     → (Q : Host → T → Segment → Type 0) (w : World S) (e : Event)
-    → MayWant b Q (at_moment (world_as h w) e.moment) e → MayWant a (λ from s g. Q from (h s) g) (at_moment w e.moment) e
+    → EventMayWant b Q (at_moment (world_as h w) e.moment) e → EventMayWant a (λ from s g. Q from (h s) g) (at_moment w e.moment) e
 memory_from {T = T} h a b r Q w e m =
-    let there = subst (λ (x : World T). MayWant b Q x e) (moment_as h w e.moment) m in
+    let there = subst (λ (x : World T). EventMayWant b Q x e) (moment_as h w e.moment) m in
     record { early = there.early; needs = needs_from h a b r Q (kind_of (datagram_in e)) (at_moment w e.moment) e.side (datagram_in e) there.needs }
 
 -- ## Worlds of related sessions
@@ -144,12 +144,12 @@ pub memory_of_second : {S T : Type 0} (R : S → T → Type 0) (a : SessionRules
     → (P : Host → S → Segment → Type 0) (Q : Host → T → Segment → Type 0)
     → ((from : Host) (s : S) (t : T) (g : Segment) → R s t → a.refusal from s g ≡ None → Q from t g → P from s g)
     → (w : World S) (v : World T) → AreRelated R w v → (e : Event)
-    → MayWant b Q (at_moment v e.moment) e → MayWant a P (at_moment w e.moment) e
+    → EventMayWant b Q (at_moment v e.moment) e → EventMayWant a P (at_moment w e.moment) e
 memory_of_second {S = S} {T = T} R a b agree P Q on w v h e m =
     let both = both_rules R a b agree in
-    let there = subst (λ (x : World T). MayWant b Q (at_moment x e.moment) e) (sym h.two) m in
+    let there = subst (λ (x : World T). EventMayWant b Q (at_moment x e.moment) e) (sym h.two) m in
     let pairs = memory_from (λ (x : Both R). x.two) both b (second_reads R a b agree) Q h.pairs e there in
-    subst (λ (x : World S). MayWant a P (at_moment x e.moment) e) h.one
+    subst (λ (x : World S). EventMayWant a P (at_moment x e.moment) e) h.one
     (memory_as (λ (x : Both R). x.one) both a (first_reads R a b agree) (λ from x g. Q from x.two g) P
     (λ from x g none wants. on from x.one x.two g x.related none wants) h.pairs e pairs)
 
@@ -158,11 +158,11 @@ pub memory_of_first : {S T : Type 0} (R : S → T → Type 0) (a : SessionRules 
     → (P : Host → S → Segment → Type 0) (Q : Host → T → Segment → Type 0)
     → ((from : Host) (s : S) (t : T) (g : Segment) → R s t → a.refusal from s g ≡ None → P from s g → Q from t g)
     → (w : World S) (v : World T) → AreRelated R w v → (e : Event)
-    → MayWant a P (at_moment w e.moment) e → MayWant b Q (at_moment v e.moment) e
+    → EventMayWant a P (at_moment w e.moment) e → EventMayWant b Q (at_moment v e.moment) e
 memory_of_first {S = S} {T = T} R a b agree P Q on w v h e m =
     let both = both_rules R a b agree in
-    let there = subst (λ (x : World S). MayWant a P (at_moment x e.moment) e) (sym h.one) m in
+    let there = subst (λ (x : World S). EventMayWant a P (at_moment x e.moment) e) (sym h.one) m in
     let pairs = memory_from (λ (x : Both R). x.one) both a (first_reads R a b agree) P h.pairs e there in
-    subst (λ (x : World T). MayWant b Q (at_moment x e.moment) e) h.two
+    subst (λ (x : World T). EventMayWant b Q (at_moment x e.moment) e) h.two
     (memory_as (λ (x : Both R). x.two) both b (second_reads R a b agree) (λ from x g. P from x.one g) Q
     (λ from x g none wants. on from x.one x.two g x.related none wants) h.pairs e pairs)

@@ -20,7 +20,7 @@ abbrev pub early_tests : {S : Type 0} → World S → Event → List (Bool × Re
 early_tests live e = front_tests e ++ address_tests live.table e.side (datagram_in e)
 
 -- the segment is of a session that passes it and may want memory for it
-pub record MayWantInside {S : Type 0} (rules : SessionRules S) (Wants : Host → S → Segment → Type 0) (live : World S) (side : Side) (d : Datagram)
+pub record SessionMayWant {S : Type 0} (rules : SessionRules S) (Wants : Host → S → Segment → Type 0) (live : World S) (side : Side) (d : Datagram)
     : Type 0 where
   pub tracked : Tracked S
   pub found : session_in (found_in live side d) ≡ Some tracked
@@ -31,17 +31,17 @@ pub record MayWantInside {S : Type 0} (rules : SessionRules S) (Wants : Host →
 -- of a session of DNS that doesn't refuse it
 abbrev pub SegmentMayWant : {S : Type 0} (rules : SessionRules S) → (Host → S → Segment → Type 0) → World S → Side → Datagram → Type 0
 SegmentMayWant rules Wants live side d =
-    ((refusal_as rules Stream live side d ≡ None) × ((begins (found_in live side d) d ≡ true) ⊎ MayWantInside rules Wants live side d))
+    ((refusal_as rules Stream live side d ≡ None) × ((begins (found_in live side d) d ≡ true) ⊎ SessionMayWant rules Wants live side d))
     ⊎ CompletesUnit rules live side d
 
 -- a datagram of DNS, or such a segment
-abbrev pub MayWantAs : {S : Type 0} (rules : SessionRules S) → (Host → S → Segment → Type 0) → Kind → World S → Side → Datagram → Type 0
-MayWantAs rules Wants kind live side d = (kind ≡ Whole Dns) ⊎ ((kind ≡ Stream) × SegmentMayWant rules Wants live side d)
+abbrev pub KindMayWant : {S : Type 0} (rules : SessionRules S) → (Host → S → Segment → Type 0) → Kind → World S → Side → Datagram → Type 0
+KindMayWant rules Wants kind live side d = (kind ≡ Whole Dns) ⊎ ((kind ≡ Stream) × SegmentMayWant rules Wants live side d)
 
 -- on which frames memory may run out: one that is refused neither by itself nor for its addresses carries one of these
-pub record MayWant {S : Type 0} (rules : SessionRules S) (Wants : Host → S → Segment → Type 0) (live : World S) (e : Event) : Type 0 where
+pub record EventMayWant {S : Type 0} (rules : SessionRules S) (Wants : Host → S → Segment → Type 0) (live : World S) (e : Event) : Type 0 where
   pub early : first_that_holds (early_tests live e) ≡ None
-  pub needs : MayWantAs rules Wants (kind_of (datagram_in e)) live e.side (datagram_in e)
+  pub needs : KindMayWant rules Wants (kind_of (datagram_in e)) live e.side (datagram_in e)
 
 -- no early test refuses it, and it is a datagram of DNS or such a segment; nothing changes, where the engine says that
 pub record IsLost {S P A : Type 0} (rules : SessionRules S) (gives : Gives S P A) (early : Option Refusal) (kind : Kind) (live : World S)
@@ -49,7 +49,7 @@ pub record IsLost {S P A : Type 0} (rules : SessionRules S) (gives : Gives S P A
   pub same : gives.Keeps → after ≡ live
   pub nothing : gives.Keeps → sent ≡ []
   pub allowed : early ≡ None
-  pub wants : MayWantAs rules gives.MayWant kind live side d
+  pub wants : KindMayWant rules gives.MayWant kind live side d
 
 -- one of both
 abbrev pub IsDoneBy : {S P A : Type 0} (rules : SessionRules S) (gives : Gives S P A) → Option Refusal → Option Refusal → Kind → World S → Side

@@ -30,7 +30,7 @@ use Rattle.run_setup.specs.declared.status.Status.TheVariants as stops
 use Rattle.run_setup.specs.Prelude.{status_of_merge}
 use Rattle.file_audit.specs.Given.{ReadsGiven, TookFiles, given_told, IfBoth}
 use Rattle.file_audit.specs.Inside.Given.{Alike}
-use Rattle.file_audit.specs.Events.{IsReadInAudit, MayWantFor, WantsAt, IsLawfulFront, TookFew, Finds}
+use Rattle.file_audit.specs.Events.{IsReadInAudit, AuditedArrivalMayWant, WantsAt, IsLawfulFront, TookFew, Finds}
 use Rattle.file_audit.specs.Inside.Events.{Expected, IsExpecting, state_of, IsLawfulWith, IsReasonAt, FindsAt, FindsLast, FoundLawful}
 use Rattle.gate_audit.specs.Auditing.{Auditing}
 use Rattle.file_audit.proofs.Alikes.{alike_same, alike_join, any}
@@ -259,7 +259,7 @@ finds_at stop settings m0 m m' r0 r r' a a' joiner s e old now mid new h grows c
 wants-of : (settings : Settings) (s : State) (done : List Event) (joiner : Joined) (e : Event) (o : Option Merged) (p q : Option Given)
     → joiner ≡ known_joiner (joiner_of settings.join done)
     → Alike (λ g left. CameTo settings (opening settings) g (arrivals_of settings.join done) s left) p q
-    → MayWantFor s.world (arrival by_known joiner e) → IfBoth (option_map (front_of done) (option_map (with_event e) o)) p (WantsAt settings)
+    → AuditedArrivalMayWant s.world (arrival by_known joiner e) → IfBoth (option_map (front_of done) (option_map (with_event e) o)) p (WantsAt settings)
 wants-of settings s done joiner e None p q held h w = tt
 wants-of settings s done joiner e (Some x) None q held h w = tt
 wants-of settings s done joiner e (Some x) (Some g) None held h w = absurd h
@@ -273,12 +273,12 @@ wants-of settings s done joiner e (Some x) (Some g) (Some left) held h w =
       left = left;
       came = h;
       wants =
-          subst (λ (a : Arrival). MayWantFor s.world a) (came_is settings done joiner e held) w;
+          subst (λ (a : Arrival). AuditedArrivalMayWant s.world a) (came_is settings done joiner e held) w;
     }
 
 -- the auditor wanted memory for the next event
 pub finds_expect : (settings : Settings) (m0 m m' : Merging) (r0 r : GivenFiles) (joiner : Joined) (s : State) (e : Event) (old now mid : Outside)
-    → Walked settings m0 m r0 r old now joiner s → ComesTo e m m' now mid → MayWantFor s.world (arrival by_known joiner e)
+    → Walked settings m0 m r0 r old now joiner s → ComesTo e m m' now mid → AuditedArrivalMayWant s.world (arrival by_known joiner e)
     → Finds (Err stops.OutOfMemory) settings m0 r0 old mid
 finds_expect settings m0 m m' r0 r joiner s e old now mid h came w =
     inr (subst (λ o. IfBoth o (given_told r0 old.left) (WantsAt settings)) (sym (h.others ∙ ap (option_map (front_of h.done)) came.events))

@@ -18,12 +18,12 @@ use Rattle.file_audit.specs.declared.given.GivenFiles.{GivenFiles}
 use Rattle.run_setup.specs.declared.status.Status.{Status}
 use Rattle.run_setup.specs.declared.status.Status.TheVariants as stops
 use Rattle.file_audit.specs.Given.{Fits, IsRunning, TookFiles, given_slot, given_told, IfBoth}
-use Rattle.gate_audit.specs.Memory.{MayWant}
+use Rattle.gate_audit.specs.Memory.{AuditorMayWant}
 
 -- the auditor may want memory for a frame: it may where an event comes to it
-abbrev pub MayWantFor : World WholeSession → Arrival → Type 0
-MayWantFor w (Reaches e) = MayWant (at_moment w e.moment) e
-MayWantFor w (Stopped e verdict) = ⊥
+abbrev pub AuditedArrivalMayWant : World WholeSession → Arrival → Type 0
+AuditedArrivalMayWant w (Reaches e) = AuditorMayWant (at_moment w e.moment) e
+AuditedArrivalMayWant w (Stopped e verdict) = ⊥
 
 -- the slots that are read behind the settings
 abbrev pub IsReadInAudit : Slot → Type 0
@@ -45,7 +45,7 @@ pub record WantsAt (settings : Settings) (all : Merged) (g : Given) : Type 0 whe
   pub state : State
   pub left : Given
   pub came : CameTo settings (opening settings) g (arrivals_of settings.join handled) state left
-  pub wants : MayWantFor state.world (arrival by_list (joiner_of settings.join handled) next)
+  pub wants : AuditedArrivalMayWant state.world (arrival by_list (joiner_of settings.join handled) next)
 
 -- they are lawful and the captures end; or this is the first reason; or a capture is faulty behind frames that are lawful; or a read failed; or
 -- memory was wanting, for a line in a form that takes some or for an event

@@ -4,5 +4,5 @@ use Rattle.gate_model.specs.Prelude.{WholeSession, World, whole_rules}
 use Rattle.event_state.specs.Lost as state
 
 -- a session may want it for each segment
-abbrev pub MayWant : World WholeSession → Event → Type 0
-MayWant live e = state.MayWant whole_rules (λ from x segment. Unit {0}) live e
+abbrev pub AuditorMayWant : World WholeSession → Event → Type 0
+AuditorMayWant live e = state.EventMayWant whole_rules (λ from x segment. Unit {0}) live e

@@ -6,7 +6,7 @@ ghost use Rattle.gate_model.specs.Prelude.{whole_rules, verdict, verdict_of, at_
 ghost use Rattle.lawful_files.specs.Prelude.{begun, behind, is_closed, Exactly};
 ghost use Rattle.gate_audit.specs.Auditing.{IsOpening, Expects, whole_world};
 ghost use Rattle.gate_audit.specs.Inside.Given.{IsWhole};
-ghost use Rattle.gate_audit.specs.Memory.{MayWant};
+ghost use Rattle.gate_audit.specs.Memory.{AuditorMayWant};
 ghost use Rattle.event_state.specs.Given.{given_by, refusal_of};
 ghost use Rattle.audit_sessions.specs.Gives.{heard_gives};
 
@@ -96,7 +96,7 @@ impl Auditor {
         ensures verdict { IfOk result (λ v. v
             ≡ verdict whole_rules (whole_world self.old) (event_of event.now)) }
         ensures next { OnOk result (Expects self.old self.new (event_of event.now)) }
-        ensures wants { OnErr result (MayWant
+        ensures wants { OnErr result (AuditorMayWant
             (at_moment (whole_world self.old) event.now.moment.0)
             (event_of event.now)) }
     {

@@ -5,13 +5,13 @@ use Rattle.gate_sessions.specs.Compact.{CompactSession, StandsFor, compact_rules
 use Rattle.gate_sessions.proofs.Agreed.{agreed}
 use Rattle.gate_sessions.proofs.Bearing.{bears_kept, bears_whole}
 use Rattle.event_state.proofs.ReadMemory.{memory_of_first, memory_of_second}
-use Rattle.gate_core.specs.Memory.{CompletesKept, MayWant}
-use Rattle.gate_core.specs.WholeMemory.{CompletesBearing, MayWantAt}
+use Rattle.gate_core.specs.Memory.{CompletesKept, GateMayWant}
+use Rattle.gate_core.specs.WholeMemory.{CompletesBearing, WholeMayWant}
 
 pub whole_wants : (w : World WholeSession) (v : World CompactSession) → AreRelated StandsFor w v → (e : Event)
-    → MayWant (at_moment v e.moment) e → MayWantAt w e
+    → GateMayWant (at_moment v e.moment) e → WholeMayWant w e
 whole_wants w v h e m = memory_of_second StandsFor whole_rules compact_rules agreed CompletesBearing CompletesKept bears_whole w v h e m
 
 pub kept_wants : (w : World WholeSession) (v : World CompactSession) → AreRelated StandsFor w v → (e : Event)
-    → MayWantAt w e → MayWant (at_moment v e.moment) e
+    → WholeMayWant w e → GateMayWant (at_moment v e.moment) e
 kept_wants w v h e m = memory_of_first StandsFor whole_rules compact_rules agreed CompletesBearing CompletesKept bears_kept w v h e m

@@ -12,5 +12,5 @@ use Rattle.event_state.specs.Lost as state
 abbrev pub CompletesKept : Host → CompactSession → Segment → Type 0
 CompletesKept from k g = KeptCompletes (meaning_by k.lists k.pair Client) (meaning_by k.lists k.pair Server) from k.kept g
 
-abbrev pub MayWant : World CompactSession → Event → Type 0
-MayWant live e = state.MayWant compact_rules CompletesKept live e
+abbrev pub GateMayWant : World CompactSession → Event → Type 0
+GateMayWant live e = state.EventMayWant compact_rules CompletesKept live e

@@ -3,7 +3,7 @@ ghost use Rattle.std.specs.Prelude.{◌≡◌, [], Ok, Err, IfOk, OnErr, OnOk};
 ghost use Rattle.gate_base.specs.Prelude.{IsMoment, event_of};
 ghost use Rattle.gate_model.specs.Prelude.{opening_world, at_moment, next, out, verdict, verdict_of};
 ghost use Rattle.gate_sessions.specs.Compact.{compact_rules};
-ghost use Rattle.gate_core.specs.Memory.{MayWant};
+ghost use Rattle.gate_core.specs.Memory.{GateMayWant};
 ghost use Rattle.gate_settings.specs.Prelude.{IsSound, HasForms};
 ghost use Rattle.event_state.specs.Given.{refusal_of};
 
@@ -106,7 +106,7 @@ impl Gate {
               world = at_moment self.old.world event.now.moment.0;
             })
             × (outbox.new ≡ [])) }
-        ensures wants { OnErr result (MayWant
+        ensures wants { OnErr result (GateMayWant
             (at_moment self.old.world event.now.moment.0) (event_of event.now)) }
     {
         self.spread_keys(event.moment);

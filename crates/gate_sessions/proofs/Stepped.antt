@@ -24,7 +24,7 @@ use Rattle.dns_plans.specs.Prelude.{beside, entered_all}
 use Rattle.dns_plans.proofs.EnteredLemmas.{list_after}
 use Rattle.dns_plans.proofs.NamedLemmas.{units-first}
 use Rattle.gate_sessions.specs.Inside.Directions.{DnsKept, IsListedSide, with_entered, dns_next, dns_out, DnsCompletes, dns_session}
-use Rattle.gate_sessions.specs.Sessions.{MayWantIn}
+use Rattle.gate_sessions.specs.Sessions.{KeptMayWant}
 use Rattle.gate_sessions.specs.Inside.Sessions.{IsSession}
 use Rattle.gate_sessions.proofs.SessionLemmas.{next_session}
 
@@ -165,7 +165,7 @@ completes_some es fs h g i by =
     subst (λ (us : List (List ℕ)). 1 ≤ length us) (sym all) some
 
 pub may_want : (pair : Pair) (d : DnsKept) (f : Host) (g : Segment) (entries : List Entry) → IsSession (dns_session pair d)
-    → DnsCompletes f (with_entered f entries d) g → MayWantIn f (dns_session pair d) g
+    → DnsCompletes f (with_entered f entries d) g → KeptMayWant f (dns_session pair d) g
 may_want pair d Client g entries h by =
     completes_some d.client_dialogue (entered_all d.client_dialogue entries) d.kept.client g (side_of pair d Client h) by
 may_want pair d Server g entries h by =

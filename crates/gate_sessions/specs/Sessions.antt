@@ -8,9 +8,9 @@ use Rattle.gate_model.specs.Prelude.{Lists}
 use Rattle.gate_sessions.specs.Compact.{CompactSession, kept_units}
 
 -- where a segment may want memory: it completes a line that bears an address, or a unit of DNS
-abbrev pub MayWantBy : Option Lists → Host → CompactSession → Segment → Type 0
-MayWantBy None from k g = KeptCompletes (client_lines k.pair) (server_lines k.pair) from k.kept g
-MayWantBy (Some lists) from k g = 1 ≤ length (kept_units from k g)
+abbrev pub ListedMayWant : Option Lists → Host → CompactSession → Segment → Type 0
+ListedMayWant None from k g = KeptCompletes (client_lines k.pair) (server_lines k.pair) from k.kept g
+ListedMayWant (Some lists) from k g = 1 ≤ length (kept_units from k g)
 
-abbrev pub MayWantIn : Host → CompactSession → Segment → Type 0
-MayWantIn from k g = MayWantBy k.lists from k g
+abbrev pub KeptMayWant : Host → CompactSession → Segment → Type 0
+KeptMayWant from k g = ListedMayWant k.lists from k g

@@ -10,7 +10,7 @@ ghost use Rattle.compact_stream.specs.Prelude.{kept_made};
 ghost use Rattle.gate_model.specs.Prelude.{addresses_in, segment_of, sent_as, tcp_of};
 ghost use Rattle.gate_sessions.specs.Compact.{compact_rules};
 ghost use Rattle.dns_plans.specs.Prelude.{whole_units, beside, entered_all};
-ghost use Rattle.gate_sessions.specs.Sessions.{MayWantIn};
+ghost use Rattle.gate_sessions.specs.Sessions.{KeptMayWant};
 
 use crate::kinds::{DnsSession, FtpSession, SessionKind};
 use crate::learned::step_units;
@@ -234,7 +234,7 @@ impl AnySession {
         ensures over { IfOk result (λ b. b
             ≡ compact_rules.ends passing.now.from self.old
             (segment_of passing.now.segment.now.datagram.now)) }
-        ensures memory { OnErr result (MayWantIn passing.now.from self.old
+        ensures memory { OnErr result (KeptMayWant passing.now.from self.old
             (segment_of passing.now.segment.now.datagram.now)) }
         ensures same { OnErr result (self.new ≡ self.old) }
         ensures nothing { OnErr result (outbox.new ≡ []) }

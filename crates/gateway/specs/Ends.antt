@@ -12,7 +12,7 @@ use Rattle.run_setup.specs.declared.status.Status.{Status}
 use Rattle.run_setup.specs.declared.status.Status.TheVariants.{Done, Usage, SettingsRefused, CaptureRefused, ReadFault, WriteFault, OpenFault, OutOfMemory, Unlawful}
 use Rattle.run_setup.specs.Prelude.{IsAccepted, events_in, Causes}
 use Rattle.gateway.specs.Pieces.{Piece, wrote_pieces, IsFront}
-use Rattle.gate_core.specs.WholeMemory.{MayWantAt}
+use Rattle.gate_core.specs.WholeMemory.{WholeMayWant}
 use Rattle.gate_model.specs.Prelude.{whole_rules}
 use Rattle.frag_join.specs.Prelude.{Reaches, arrival, joiner_of, by_list}
 use Rattle.gateway.specs.Machine.{after, arrivals_by, frames_of, given_by_all, files, opening}
@@ -63,7 +63,7 @@ pub record WantsAt (settings : GateSettings) (events : List Event) (old new : Tr
   pub written : new ≡ wrote_pieces (given_by_all whole_rules settings (opening settings) (arrivals_by settings handled)) old
   pub came : Event
   pub comes : arrivals_by settings (handled ++ next ∷ []) ≡ arrivals_by settings handled ++ Reaches came ∷ []
-  pub wants : MayWantAt (after whole_rules (opening settings) (arrivals_by settings handled)).world came
+  pub wants : WholeMayWant (after whole_rules (opening settings) (arrivals_by settings handled)).world came
 
 -- behind what these events gave the frames of the next one stand written, whole; where there is none, nothing, and both captures are at their ends
 abbrev pub WroteFrames : GateSettings → Ending → List Event → List Event → Trace → Trace → Type 0

@@ -19,7 +19,7 @@ use Rattle.run_setup.specs.declared.status.Status.TheVariants as stops
 use Rattle.file_audit.specs.Given.{Fits, IsRunning, given_told}
 use Rattle.file_audit.specs.Inside.Given.{Alike}
 use Rattle.gate_audit.specs.Auditing.{Auditing, whole_world}
-use Rattle.file_audit.specs.Events.{MayWantFor, IsReadInAudit}
+use Rattle.file_audit.specs.Events.{AuditedArrivalMayWant, IsReadInAudit}
 
 -- ## A frame is expected
 
@@ -45,7 +45,7 @@ pub record ExpectsFrame (old new : Auditing) (x : Arrival) : Type 0 where
 
 abbrev pub Expected : Result LineHead OutOfMemory → ℕ → Auditing → Auditing → Arrival → Type 0
 Expected (Ok h) number old new x = IsHead h number (whole_world old) x × ExpectsFrame old new x
-Expected (Err error) number old new x = MayWantFor (whole_world old) x
+Expected (Err error) number old new x = AuditedArrivalMayWant (whole_world old) x
 
 -- ## What is found at a frame
 

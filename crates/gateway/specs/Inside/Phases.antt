@@ -21,7 +21,7 @@ use Rattle.run_setup.specs.RunNames.{Names, settings_starts, first_starts}
 use Rattle.gateway.specs.Causes.{StartedToWant}
 use Rattle.gateway.specs.Inside.Causes.{CausesOfWriting, CausesOfReadying, WritesReportLine}
 use Rattle.gate_core.specs.Gates.{Gateway}
-use Rattle.gate_core.specs.Memory.{MayWant}
+use Rattle.gate_core.specs.Memory.{GateMayWant}
 use Rattle.gate_model.specs.Prelude.{out, World, at_moment, opening_world}
 use Rattle.gate_sessions.specs.Compact.{CompactSession, compact_rules}
 use Rattle.frag_join.specs.Prelude.{Arrival, Reaches, Stopped}
@@ -29,9 +29,9 @@ use Rattle.gateway.specs.Machine.{State, after, after_one, heads, frames_of, giv
 use Rattle.gateway.specs.Ends.{Ends, IsOfFirst, StandWritten, Wants}
 
 -- the gate may want memory for a frame: it may where an event comes to it
-abbrev pub MayWantFor : World CompactSession → Arrival → Type 0
-MayWantFor w (Reaches e) = MayWant (at_moment w e.moment) e
-MayWantFor w (Stopped e verdict) = ⊥
+abbrev pub ArrivalMayWant : World CompactSession → Arrival → Type 0
+ArrivalMayWant w (Reaches e) = GateMayWant (at_moment w e.moment) e
+ArrivalMayWant w (Stopped e verdict) = ⊥
 
 -- what a run has started where it ended before its outputs
 abbrev pub HasStartedFirst : Status → Names → Outside → Outside → Type 0
@@ -167,7 +167,7 @@ WritesLastLine (Err status) form line old new = WritesReportLine (Err status) fo
 -- memory was wanting: the gate wanted it before anything was written, or the line did behind the frames, in a form that takes some
 abbrev pub WantsIn : Gateway → Totals → Arrival → Outside → Outside → Type 0
 WantsIn gate totals a old new =
-    (MayWantFor gate.world a × (new ≡ old))
+    (ArrivalMayWant gate.world a × (new ≡ old))
     ⊎ ((takes_memory gate.settings.report ≡ true) × WritesAll (frames_of compact_rules gate.settings (state_of gate totals) a) old new)
 
 -- what was counted, where an event was taken

@@ -6,7 +6,7 @@ use Rattle.gate_model.proofs.ListsWorld.{moment_lists, next_lists}
 use Rattle.gate_sessions.specs.Compact.{CompactSession, compact_rules}
 use Rattle.gate_sessions.proofs.Listing.{kept_have_lists}
 use Rattle.gate_core.specs.Gates.{Gateway}
-use Rattle.gate_core.specs.Memory.{MayWant}
+use Rattle.gate_core.specs.Memory.{GateMayWant}
 use Rattle.gate_core.proofs.KeptLaws.{kept_laws}
 use Rattle.gate_core.proofs.Lost.{wanted}
 use Rattle.gate_core.proofs.Stepping.{stepped_by, put_is}
@@ -76,7 +76,7 @@ returns-in_err-taken-clause-wants c =
     let w = c.args.self.now.world in
     let state : world_in c.self.inside.state ≡ w = ap (λ g. g.world) (c.self.view_is ∙ c.spread_keys.ensures) in
     let live : world_in c.expire.new.self ≡ at_moment w e.moment = c.expire.ensures.live ∙ ap (λ x. at_moment x e.moment) state in
-    on_err c.from_residual.result (subst (λ (x : World CompactSession). MayWant x e) live (wanted _ e _ _ c.in_err-taken.ensures))
+    on_err c.from_residual.result (subst (λ (x : World CompactSession). GateMayWant x e) live (wanted _ e _ _ c.in_err-taken.ensures))
 
 pub returns-in_err-taken-clause-memory : goal.returns-in_err-taken-clause-memory
 returns-in_err-taken-clause-memory c =

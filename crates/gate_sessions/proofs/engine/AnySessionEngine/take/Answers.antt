@@ -9,7 +9,7 @@ use Rattle.event_payloads.specs.Prelude.{image_by}
 use Rattle.gate_base.proofs.Options.{on_err}
 use Rattle.gate_base.specs.declared.host.Host.{Host}
 use Rattle.event_segments.proofs.SteppedSessions.{IsSeen, seen_as, called_is, next_is, waits_is}
-use Rattle.gate_sessions.specs.Sessions.{MayWantIn}
+use Rattle.gate_sessions.specs.Sessions.{KeptMayWant}
 use Rattle.gate_sessions.proofs.Gone.{gone_is}
 use Rattle.gate_sessions.proofs.engine.AnySessionEngine.take.Goals as goal
 
@@ -62,7 +62,7 @@ returns-in_err-over-clause-lost c =
     on_err c.from_residual.result (record {
       same = λ keeps. ap (seen_as c.tracked.inside.client c.tracked.inside.pair) c.in_err-over.ensures.same ∙ c.tracked.view_is;
       nothing = λ keeps. c.in_err-over.ensures.nothing;
-      wants = subst (λ (b : Host). MayWantIn b t.session (segment_of d)) c.host_on.ensures
-          (subst (λ (x : Tracked CompactSession). MayWantIn c.host_on.result x.session (segment_of d)) c.tracked.view_is
+      wants = subst (λ (b : Host). KeptMayWant b t.session (segment_of d)) c.host_on.ensures
+          (subst (λ (x : Tracked CompactSession). KeptMayWant c.host_on.result x.session (segment_of d)) c.tracked.view_is
           c.in_err-over.ensures.memory);
     })

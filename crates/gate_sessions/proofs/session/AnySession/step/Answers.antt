@@ -11,7 +11,7 @@ use Rattle.gate_model.specs.Prelude.{segment_of, sent_as}
 use Rattle.gate_sessions.specs.Compact.{CompactSession, compact_rules}
 use Rattle.dns_plans.specs.Prelude.{entered_all}
 use Rattle.gate_sessions.specs.Inside.Directions.{DnsKept, dns_session, listed_of}
-use Rattle.gate_sessions.specs.Sessions.{MayWantIn}
+use Rattle.gate_sessions.specs.Sessions.{KeptMayWant}
 use Rattle.gate_sessions.specs.Inside.Sessions.{session_of, IsOfPair, IsSession}
 use Rattle.gate_sessions.specs.declared.kinds.SessionKind.{SessionKind}
 use Rattle.gate_sessions.proofs.Stepped.{side_of, AreNamed, next_seen, out_seen, units_stay, ftp_session, lines_stay, may_want}
@@ -96,6 +96,6 @@ returns-in-Units-clause-memory c =
     let d : DnsKept = c.in-Units.session in
     let seen : session_of pair c.self.inside.kind ≡ dns_session pair d = ap (session_of pair) c.in-Units.is in
     on_err_weaker c.step_units.result
-    (λ m. subst (λ (k : CompactSession). MayWantIn f k g) (sym seen ∙ c.self.view_is)
+    (λ m. subst (λ (k : CompactSession). KeptMayWant f k g) (sym seen ∙ c.self.view_is)
     (may_want pair d f g c.args.completed.entries.now (subst IsSession seen c.self.invariant.1) m))
     c.step_units.ensures.memory
