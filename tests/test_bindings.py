@@ -15,7 +15,9 @@ from testing import CASE, INPUTS, OUTPUTS, PROGRAM, RIGHT, datagram
 from rendapil import bindings  # noqa: I001
 from rendapil.document import Document, RealmTable, StaticTable, document_in
 from rendapil.files import Capture
-from rendapil.bindings import ACK, FIN, SECOND, SIDES, SYN, TCP, UDP, Binding, Bindings
+from rendapil.packet import datagram_of
+from rendapil.bindings import Binding, Bindings
+from rendapil.numbers import ACK, FIN, SECOND, SIDES, SYN, TCP, UDP
 from dialogues import Dialogues
 from datagrams import fragments, quad, tcp, udp
 from messages import resource
@@ -74,7 +76,7 @@ def datagrams_in(path: str) -> Iterator[bytes]:
     """The datagrams of a capture."""
     with Capture(path) as capture:
         for frame in capture.frames():
-            yield bindings.datagram_of(frame.octets, frame.link)
+            yield datagram_of(frame.octets, frame.link)
 
 
 def events_of(left: str, right: str, left_out: str, right_out: str, report: str) -> Iterator[Told]:

@@ -10,7 +10,7 @@ import unittest
 from testing import TOP, datagram
 
 import aliases  # noqa: I001
-from rendapil.bindings import ACK, FIN, LONG_TIMEOUT, SECOND, SYN, TCP, UDP
+from rendapil.numbers import ACK, FIN, LONG_TIMEOUT, SECOND, SYN, TCP, UDP
 from datagrams import tcp
 from records import RAW_IP
 from words import Journal

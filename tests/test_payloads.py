@@ -14,7 +14,8 @@ from unittest import mock
 from testing import CHECK, EXPLAIN, PLAN, PROGRAM, RIGHT, capture, said
 
 from datagrams import fragments, icmp, tcp, udp  # testing says where it is
-from rendapil.bindings import TCP, UDP, Bindings
+from rendapil.bindings import Bindings
+from rendapil.numbers import TCP, UDP
 from rendapil.document import document_in
 from rendapil.files import Record
 from rendapil.frames import Event

@@ -16,7 +16,8 @@ from pathlib import Path
 from typing import NamedTuple
 
 sys.path.insert(0, str(Path(__file__).resolve().parent.parent / "python"))
-from rendapil.bindings import SIDES, pool_of  # noqa: E402
+from rendapil.bindings import pool_of  # noqa: E402
+from rendapil.numbers import SIDES  # noqa: E402
 from rendapil.document import Document, document_in  # noqa: E402
 from rendapil.files import ETHERNET, Capture, Record  # noqa: E402
 

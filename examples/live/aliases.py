@@ -11,7 +11,9 @@ from ipaddress import IPv4Address
 
 TOP = os.path.join(os.path.dirname(os.path.realpath(__file__)), "../..")
 sys.path.insert(0, f"{TOP}/python")
-from rendapil.bindings import LONG_TIMEOUT, SECOND, SIDES, Binding, Bindings, Pool, datagram_of  # noqa: E402
+from rendapil.bindings import Binding, Bindings, Pool  # noqa: E402
+from rendapil.numbers import LONG_TIMEOUT, SECOND, SIDES  # noqa: E402
+from rendapil.packet import datagram_of  # noqa: E402
 from rendapil.document import document_in  # noqa: E402
 from rendapil.settings_text import statics  # noqa: E402
 

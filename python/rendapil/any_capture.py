@@ -2,8 +2,8 @@
 import logging
 from importlib import import_module
 
-from rendapil.bindings import TCP
 from rendapil.files import Record
+from rendapil.numbers import TCP
 
 IPV4 = b"\x08\x00"
 TAGS = (b"\x81\x00", b"\x88\xa8", b"\x91\x00")

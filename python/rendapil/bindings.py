@@ -5,30 +5,15 @@ the gateway's own limits, and no frame ends it: an event that it can't follow is
 import heapq
 import struct
 from bisect import bisect_right
-from collections.abc import Callable, Iterable, Iterator
+from collections.abc import Callable, Iterable
 from dataclasses import dataclass
 from ipaddress import IPv4Address, IPv4Network
 from itertools import accumulate, zip_longest
 
+from rendapil.connections import Connection, Session, connection_begun
+from rendapil.dns import named_in
 from rendapil.document import Document, RealmTable, Side
-
-SIDES: tuple[Side, Side] = ("left", "right")
-ETHERNET = 1
-SECOND = 10**9
-UDP_TIMEOUT, PING_HOLD, NAME_HOLD, TCP_HOLD, LONG_TIMEOUT, JOIN_HOLD = (n * SECOND for n in (300, 60, 60, 240, 7440, 30))
-TCP, UDP = 6, 17
-FTP_PORT, DNS_PORT = 21, 53
-FIN, SYN, RST, ACK = 1, 2, 4, 16
-CHANGED = {(TCP, FTP_PORT), (TCP, DNS_PORT), (UDP, DNS_PORT), (UDP, 161), (UDP, 162)}
-"""Ports whose payloads the gateway changes: what it left alone there stands both in what came and in what went out."""
-
-
-def datagram_of(frame: bytes, link: int) -> bytes:
-    """The IPv4 datagram of a frame, or nothing."""
-    if link == ETHERNET:
-        frame = frame[14:] if frame[12:14] == b"\x08\x00" else b""
-    return frame if len(frame) >= 20 and frame[0] >> 4 == 4 else b""
-
+from rendapil.numbers import DNS_PORT, JOIN_HOLD, NAME_HOLD, PING_HOLD, RST, SIDES, TCP, TCP_HOLD, UDP, UDP_TIMEOUT
 
 OF_A_FRAME = ("Snapped", "NotIpv4", "BadHeader", "BadHeaderSum", "Fragment", "IpOptions", "BadFragment", "FragmentsFull")
 """The refusals of a fragment by itself: the datagram that it is of goes on waiting for its other fragments."""
@@ -38,167 +23,6 @@ USED = 1 << 14
 
 JOINED = 64
 """The most datagrams that the gateway joins at once."""
-
-
-# What a DNS message names.
-
-
-REVERSE_LABELS = 6
-"""How many labels a full reverse name has, as 1.200.168.192.in-addr.arpa."""
-
-LABELS = 127
-"""The most labels that a name has."""
-
-
-class Names:
-    """The names of a DNS message, of each at most so many labels. Each pointer is followed once. ValueError where one doesn't lead back."""
-
-    def __init__(self, message: bytes, most: int) -> None:
-        self._message, self._most = message, most
-        self._leads: dict[int, int] = {}  # from a pointer to the first octet behind it that is none
-
-    def _led_to(self, at: int) -> int:
-        """The place to which a pointer leads, over further pointers."""
-        path = []
-        while self._message[at] >= 192:
-            if at in self._leads:
-                at = self._leads[at]
-                break
-            path.append(at)
-            to = (self._message[at] & 63) << 8 | self._message[at + 1]
-            if to >= at:
-                raise ValueError("a pointer that doesn't lead back")
-            at = to
-        self._leads.update(dict.fromkeys(path, at))
-        return at
-
-    def read(self, at: int) -> tuple[list[bytes], int]:
-        """The labels of the name at a place, and the place behind it."""
-        labels: list[bytes] = []
-        end = 0
-        while (size := self._message[at]) and not (end and len(labels) == self._most):
-            if size >= 192:
-                end = end or at + 2
-                at = self._led_to(at)
-            else:
-                if len(labels) < self._most:
-                    labels.append(self._message[at + 1 : at + 1 + size])
-                at += 1 + size
-        return labels, end or at + 1
-
-
-def address_of_reverse(labels: list[bytes]) -> list[bytes]:
-    """The address of a full reverse name, if it is one."""
-    if len(labels) != REVERSE_LABELS or [label.lower() for label in labels[4:]] != [b"in-addr", b"arpa"]:
-        return []
-    numbers = [int(label) for label in labels[3::-1] if len(label) <= 3 and label.isdigit() and label == b"%d" % int(label) and int(label) < 256]
-    return [bytes(numbers)] if len(numbers) == 4 else []
-
-
-def named_in(message: bytes) -> list[bytes]:
-    """The addresses that a DNS message names, in order: those of full reverse names and of A records."""
-    questions, *records = struct.unpack_from(">4H", message, 4)
-    at, found = 12, []
-    names = Names(message, REVERSE_LABELS + 1)
-    for place in range(questions + sum(records)):
-        labels, at = names.read(at)
-        found += address_of_reverse(labels)
-        kind, group = struct.unpack_from(">HH", message, at)
-        at += 4
-        if place >= questions:
-            size = struct.unpack_from(">H", message, at + 4)[0]
-            at += 6 + size
-            found += [message[at - 4 : at]] if (kind, group, size) == (1, 1, 4) else []
-    return found
-
-
-# Connections.
-
-
-def signed(number: int) -> int:
-    """A difference of sequence numbers."""
-    return (number + (1 << 31)) % (1 << 32) - (1 << 31)
-
-
-class Stream:
-    """The octets of one host in one realm: the number of the next, and of DNS those that belong to no whole message yet."""
-
-    def __init__(self) -> None:
-        self.next: int | None = None
-        self.rest = b""
-
-    def take(self, segment: bytes) -> bytes:
-        """What is new in a segment without RST. A SYN that comes again changes nothing."""
-        sequence, flags = struct.unpack_from(">I", segment, 24)[0], segment[33]
-        payload = segment[20 + (segment[32] >> 4) * 4 : int.from_bytes(segment[2:4])]
-        if flags & SYN:
-            if self.next is None:
-                self.next = (sequence + 1) % (1 << 32)
-        elif self.next is not None and (new := signed(sequence + len(payload) - self.next)) > 0:
-            self.next = (self.next + new) % (1 << 32)
-            return payload[-new:]
-        return b""
-
-    def messages(self, new: bytes) -> Iterator[bytes]:
-        """The DNS messages that new octets complete."""
-        self.rest += new
-        while len(self.rest) >= 2 and len(self.rest) >= (end := 2 + int.from_bytes(self.rest[:2])):
-            message, self.rest = self.rest[2:end], self.rest[end:]
-            yield message
-
-
-class Session:
-    """What is kept of an FTP control connection or a connection of DNS over TCP: by the side of each host, its stream as it comes and as it goes
-    on, and the bindings of the addresses that it has named."""
-
-    def __init__(self, port: int) -> None:
-        self.port = port
-        self.comes, self.goes = (Stream(), Stream()), (Stream(), Stream())
-        self.named: tuple[dict[Binding, None], dict[Binding, None]] = ({}, {})
-
-
-@dataclass(slots=True)
-class Connection:
-    """A TCP connection. `acknowledged`, `seen` and `again` have the bit of each side from which an ACK, a segment and a further segment came."""
-
-    session: Session | None
-    end: int = 0
-    acknowledged: int = 0
-    seen: int = 0
-    again: int = 0
-    is_closing: bool = False
-
-    @property
-    def is_established(self) -> bool:
-        """Whether both hosts have acknowledged, and neither has said that it ends."""
-        return self.acknowledged == 3 and not self.is_closing
-
-    def is_ended_by(self, side: int, reset: bytes) -> bool:
-        """Whether a reset that passed ends it. A session goes on where the reset is older than its last octet."""
-        number = self.session.comes[side].next if self.session else None
-        return number is None or signed(struct.unpack_from(">I", reset, 24)[0] - number) >= 0
-
-    def note(self, side: int, flags: int) -> int:
-        """Notes a segment, and says for how long it holds."""
-        bit = 1 << side
-        self.again |= self.seen & bit
-        self.seen |= bit
-        if flags & ACK:
-            self.acknowledged |= bit
-        self.is_closing |= bool(flags & FIN)
-        return LONG_TIMEOUT if self.is_established else TCP_HOLD
-
-
-def connection_begun(known: Connection | None, segment: bytes) -> Connection:
-    """The connection of a segment that passed, by what was known of it."""
-    is_first = segment[33] & (SYN | ACK) == SYN
-    if known and not (known.is_closing and not known.session and is_first):
-        return known
-    port = int.from_bytes(segment[22:24])
-    return Connection(Session(port) if not known and is_first and port in (FTP_PORT, DNS_PORT) else None)
-
-
-# The table.
 
 
 @dataclass(slots=True, eq=False)

@@ -7,8 +7,9 @@ from datetime import datetime, timezone
 from functools import lru_cache
 from typing import NamedTuple
 
-from rendapil.bindings import DNS_PORT, FTP_PORT, LABELS, SECOND, TCP, UDP, Names
+from rendapil.dns import LABELS, Names
 from rendapil.files import Record, plain
+from rendapil.numbers import DNS_PORT, FTP_PORT, SECOND, TCP, UDP
 from rendapil.places import TOP
 
 PROTOCOLS = {1: "ICMP", TCP: "TCP", UDP: "UDP"}

@@ -10,8 +10,8 @@ from itertools import chain
 from typing import IO, BinaryIO, cast
 
 from rendapil.any_capture import IPV4, TAGS
-from rendapil.bindings import SECOND
 from rendapil.files import ETHERNET, FORMS, HEAD, MOMENTS, RAW_IP, RECORD, RECORD_HEAD, Damaged, shown
+from rendapil.numbers import SECOND
 from rendapil.places import TOP
 from rendapil.readers import PACKED, PCAPNG, records, whole_records
 from rendapil.sayings import Fault

@@ -1,12 +1,19 @@
 """IPv4 datagrams that are changed in place, and their checksums."""
 import struct
 
-from rendapil.bindings import TCP, UDP
+from rendapil.numbers import ETHERNET, TCP, UDP
 
 ICMP = 1
 ICMP_ERRORS = (3, 4, 11, 12)
 SUM_AT = {ICMP: 2, TCP: 16, UDP: 6}
 HEADER = struct.Struct(">BxHxxHxBxxII")
+
+
+def datagram_of(frame: bytes, link: int) -> bytes:
+    """The IPv4 datagram of a frame, or nothing."""
+    if link == ETHERNET:
+        frame = frame[14:] if frame[12:14] == b"\x08\x00" else b""
+    return frame if len(frame) >= 20 and frame[0] >> 4 == 4 else b""
 
 
 def is_host(address: int) -> bool:

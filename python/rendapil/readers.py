@@ -7,8 +7,8 @@ from io import BufferedReader, FileIO
 from typing import NamedTuple
 
 from rendapil.any_capture import SLL, SLL2
-from rendapil.bindings import SECOND
 from rendapil.files import FORMS, IN, LOCAL, OUT, UNKNOWN, Damaged, Record, pcap_records, shown
+from rendapil.numbers import SECOND
 
 SECTION, INTERFACE, OLD_PACKET, SIMPLE_PACKET, PACKET = 0x0A0D0D0A, 1, 2, 3, 6
 """Types of blocks of pcapng."""

@@ -2,7 +2,8 @@
 from collections.abc import Iterable
 from ipaddress import IPv4Address
 
-from rendapil.bindings import SIDES, Binding
+from rendapil.bindings import Binding
+from rendapil.numbers import SIDES
 
 
 def same_line(blocks: Iterable[object]) -> str:

@@ -1,7 +1,7 @@
 """The octets that one host of a connection sends: what stands in them is found here for those who follow FTP and DNS over TCP."""
 from collections.abc import Iterable, Iterator
 
-from rendapil.bindings import DNS_PORT, FTP_PORT
+from rendapil.numbers import DNS_PORT, FTP_PORT
 
 TRACKED = (FTP_PORT, DNS_PORT)
 """The ports whose TCP connections the gateway follows octet by octet. It cuts and numbers their segments in its own way."""

@@ -13,11 +13,11 @@ from itertools import islice
 from typing import TYPE_CHECKING
 
 from rendapil.any_capture import IPV4, TAGS
-from rendapil.bindings import SECOND, SIDES
 from rendapil.document import Side, faultless
 from rendapil.files import ETHERNET, FORMS, RECORD, Damaged, NoStamp, Record, TooLong, pcap_records, shown
 from rendapil.inputs import Fed, opened
 from rendapil.kinds import by_head
+from rendapil.numbers import SECOND, SIDES
 from rendapil.packet import SUM_AT, Packet, is_host, is_private
 from rendapil.payloads.applications import BREAKS
 from rendapil.payloads.kept import ALIAS, HOST, MAYBE, PRIVATE, Meaning, Meant

@@ -7,9 +7,10 @@ from functools import lru_cache
 from ipaddress import IPv4Address
 from zlib import crc32
 
-from rendapil.bindings import SECOND, SIDES, TCP, UDP, Blocks, pool_of
+from rendapil.bindings import Blocks, pool_of
 from rendapil.comparing.captures import Bare, Joiner, Links, frames
 from rendapil.document import Document
+from rendapil.numbers import SECOND, SIDES, TCP, UDP
 from rendapil.packet import ICMP, is_host
 from rendapil.settings_text import oid_table, pool_table, same_line, static_table
 

@@ -11,9 +11,10 @@ from collections.abc import Callable, Iterable, Iterator
 from dataclasses import dataclass, field
 
 from rendapil.any_capture import datagram_in, with_length
-from rendapil.bindings import SECOND, SIDES, TCP, UDP, Blocks, pool_of
+from rendapil.bindings import Blocks, pool_of
 from rendapil.document import Document
 from rendapil.files import ETHERNET, IN, LOCAL, OUT, UNKNOWN, Damaged, Record, bare_head, record_head, shown
+from rendapil.numbers import SECOND, SIDES, TCP, UDP
 from rendapil.packet import ICMP, Packet, header_sum
 from rendapil.progress import Progress
 from rendapil.readers import records, whole_records

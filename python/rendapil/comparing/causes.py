@@ -7,7 +7,7 @@ from dataclasses import dataclass, field
 from ipaddress import IPv4Address
 from typing import NamedTuple
 
-from rendapil.bindings import SECOND, TCP, UDP
+from rendapil.numbers import SECOND, TCP, UDP
 from rendapil.comparing.bindings import identity
 from rendapil.comparing.captures import ports
 from rendapil.comparing.match import Came, Due, Match, Sent, is_tracked, mended

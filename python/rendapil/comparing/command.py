@@ -10,7 +10,6 @@ from collections.abc import Iterator
 from dataclasses import asdict, dataclass
 from ipaddress import IPv4Address
 
-from rendapil.bindings import SECOND, SIDES
 from rendapil.check.settings import document_of
 from rendapil.comparing.bindings import Clock, Learnt, clock_of
 from rendapil.comparing.captures import Links, shifted
@@ -22,6 +21,7 @@ from rendapil.document import Document
 from rendapil.ending import ended, put_in_place, refuse_overwriting
 from rendapil.files import IN, OUT, shown
 from rendapil.frames import time_of
+from rendapil.numbers import SECOND, SIDES
 from rendapil.places import TOP
 from rendapil.readers import records
 from rendapil.sayings import Fault

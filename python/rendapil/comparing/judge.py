@@ -7,7 +7,7 @@ from collections.abc import Iterable
 from dataclasses import dataclass
 from ipaddress import IPv4Address
 
-from rendapil.bindings import ACK, FIN, RST, SIDES, SYN, TCP, Blocks
+from rendapil.bindings import Blocks
 from rendapil.comparing.bindings import Learnt
 from rendapil.comparing.captures import Bare, Links
 from rendapil.comparing.causes import (
@@ -30,6 +30,7 @@ from rendapil.comparing.match import KEPT, Came, Due, Match, Reference, Sent, is
 from rendapil.comparing.streams import MISSED, PROXY, ROOM, Direction, Segment, Stream, segment_of, split_by_syn
 from rendapil.document import Document
 from rendapil.files import IN, OUT
+from rendapil.numbers import ACK, FIN, RST, SIDES, SYN, TCP
 from rendapil.packet import ICMP, Packet
 from rendapil.sayings import Fault
 from rendapil.streams import TRACKED

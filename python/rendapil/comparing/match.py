@@ -7,8 +7,8 @@ from dataclasses import dataclass, field
 from itertools import islice
 from typing import NamedTuple, TypeVar
 
-from rendapil.bindings import TCP
 from rendapil.comparing.captures import Joiner, Links, frames
+from rendapil.numbers import TCP
 from rendapil.packet import Packet
 from rendapil.progress import Progress
 from rendapil.streams import TRACKED

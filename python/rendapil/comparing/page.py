@@ -4,11 +4,11 @@ import os
 from pathlib import Path
 from typing import NamedTuple
 
-from rendapil.bindings import SECOND
 from rendapil.comparing.captures import Links
 from rendapil.comparing.causes import BY_RIGHT, DIFFERENT, UNSURE, Group, Groups
 from rendapil.comparing.match import Match
 from rendapil.frames import time_of
+from rendapil.numbers import SECOND
 from rendapil.pages import STYLE, page_by, part_of
 
 HERE = Path(__file__).resolve().parent

@@ -3,10 +3,11 @@ reference does no such thing, so its frames are compared with these. Addresses a
 import os
 from array import array
 
-from rendapil.bindings import SIDES, TCP, UDP, Blocks, pool_of
+from rendapil.bindings import Blocks, pool_of
 from rendapil.comparing.bindings import APART, Learnt, identity, is_error
 from rendapil.comparing.captures import Bare, Links, frames, ports
 from rendapil.document import Document
+from rendapil.numbers import SIDES, TCP, UDP
 from rendapil.packet import ICMP, Packet, is_host
 
 Flow = bytes

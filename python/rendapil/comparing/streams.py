@@ -10,10 +10,11 @@ from functools import cached_property, partial
 from itertools import accumulate, starmap
 from typing import NamedTuple
 
-from rendapil.bindings import ACK, DNS_PORT, FIN, FTP_PORT, RST, SYN, signed
 from rendapil.comparing.causes import BY_RIGHT, DIFFERENT, UNSURE, Groups, Ladder, Rung, payload
+from rendapil.connections import signed
 from rendapil.files import plain
 from rendapil.frames import dns_lines, ftp_lines
+from rendapil.numbers import ACK, DNS_PORT, FIN, FTP_PORT, RST, SYN
 from rendapil.streams import TRACKED, messages_in, whole_of_parts
 
 ROOM, SHIFTS, RUNGS = 1 << 28, 64, 60

@@ -5,8 +5,9 @@ from dataclasses import dataclass, field
 from ipaddress import IPv4Address
 from typing import NamedTuple
 
-from rendapil.bindings import DNS_PORT, LABELS, SIDES, TCP, UDP, Names
+from rendapil.dns import LABELS, Names
 from rendapil.frames import Event, dns_name
+from rendapil.numbers import DNS_PORT, SIDES, TCP, UDP
 
 DNS = DNS_PORT.to_bytes(2)
 

@@ -12,7 +12,8 @@ from dataclasses import asdict
 from ipaddress import IPv4Address
 from typing import TYPE_CHECKING
 
-from rendapil.bindings import SECOND, SIDES, Binding, Pool
+from rendapil.bindings import Binding, Pool
+from rendapil.numbers import SECOND, SIDES
 from rendapil.check.settings import document_of
 from rendapil.ending import ended, put_in_place, written
 from rendapil.explain.notes import NONE, Notes

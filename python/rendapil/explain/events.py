@@ -2,7 +2,7 @@
 import json
 from ipaddress import IPv4Address
 
-from rendapil.bindings import SIDES
+from rendapil.numbers import SIDES
 from rendapil.frames import Event, address_of, ends, spoken, time_of
 from rendapil.payloads.scan import Left
 

@@ -4,8 +4,10 @@ from collections.abc import Callable
 from dataclasses import dataclass, field
 from typing import NamedTuple
 
-from rendapil.bindings import ACK, DNS_PORT, FTP_PORT, RST, SYN, TCP, Bindings, Stream, signed
+from rendapil.bindings import Bindings
+from rendapil.connections import Stream, signed
 from rendapil.frames import HIDDEN, SECRET, Event, Piece, Segment, address_of, compared, dns_lines, ftp_lines
+from rendapil.numbers import ACK, DNS_PORT, FTP_PORT, RST, SYN, TCP
 
 PARTS = 240
 """The most parts into which the time of a run is cut, and its frames by number."""

@@ -3,7 +3,7 @@ from ipaddress import IPv4Address
 from pathlib import Path
 from typing import NamedTuple
 
-from rendapil.bindings import SIDES, Binding
+from rendapil.bindings import Binding
 from rendapil.explain.changes import Changes, said_of
 from rendapil.explain.gathered import PARTS, Gathered, Parts
 from rendapil.explain.notes import NONE, Notes
@@ -12,6 +12,7 @@ from rendapil.explain.story import Story
 from rendapil.explain.talks import Talks
 from rendapil.explain.texts import Text, text_of
 from rendapil.frames import Verdict
+from rendapil.numbers import SIDES
 from rendapil.pages import STYLE, page_by, part_of
 from rendapil.payloads.applications import BREAKS, UNSURE
 from rendapil.payloads.kept import MAYBE

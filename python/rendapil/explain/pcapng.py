@@ -3,9 +3,9 @@ here of the format (draft-ietf-opsawg-pcapng) are three blocks: a section's head
 import struct
 from typing import IO
 
-from rendapil.bindings import SIDES
 from rendapil.files import Record
 from rendapil.frames import Event, Verdict, compared, may_speak, spoken, ways
+from rendapil.numbers import SIDES
 from rendapil.payloads.scan import Scan
 
 INTERFACES = [f"{side}-{way}" for side in SIDES for way in ("in", "out")]

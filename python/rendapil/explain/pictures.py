@@ -4,7 +4,7 @@ from collections.abc import Callable, Iterable, Iterator
 from dataclasses import dataclass, field
 from typing import NamedTuple
 
-from rendapil.bindings import SECOND
+from rendapil.numbers import SECOND
 from rendapil.frames import second_of
 from rendapil.explain.gathered import Parts
 

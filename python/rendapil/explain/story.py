@@ -7,10 +7,12 @@ from contextlib import ExitStack
 from dataclasses import dataclass, field
 from itertools import islice
 
-from rendapil.bindings import ETHERNET, SIDES, Binding, Bindings, datagram_of
+from rendapil.bindings import Binding, Bindings
 from rendapil.document import Document
 from rendapil.files import SENT, Capture, Line, Record, lines, shown
 from rendapil.frames import Event, address_of
+from rendapil.numbers import ETHERNET, SIDES
+from rendapil.packet import datagram_of
 
 HOSTS, DESTINATIONS = 10_000, 16
 """The most hosts of which refused frames are kept, those with the most, and of each the most destinations. The rest is summed."""

@@ -3,8 +3,8 @@ from collections import Counter
 from dataclasses import dataclass
 from ipaddress import IPv4Address
 
-from rendapil.bindings import TCP, UDP
 from rendapil.frames import PROTOCOLS, Event
+from rendapil.numbers import TCP, UDP
 from rendapil.payloads.applications import by_port
 
 TALKS, SHOWN, ENDS = 20_000, 100, 4096

@@ -5,11 +5,12 @@ import re
 import sys
 from ipaddress import IPv4Address
 
-from rendapil.bindings import SIDES, pool_of
+from rendapil.bindings import pool_of
 from rendapil.check.settings import document_of
 from rendapil.document import Document, Side
 from rendapil.ending import ended
 from rendapil.files import shown
+from rendapil.numbers import SIDES
 
 DEVICE = re.compile(r"[A-Za-z0-9_.:@-]{1,15}")
 """Names of devices that nft and ip take."""

@@ -6,10 +6,10 @@ import sys
 from collections.abc import Iterator
 from ipaddress import AddressValueError, IPv4Address, summarize_address_range
 
-from rendapil.bindings import SIDES
 from rendapil.ending import ended
 from rendapil.exporting.command import device
 from rendapil.files import shown
+from rendapil.numbers import SIDES
 from rendapil.sayings import Fault
 from rendapil.settings_text import pool_table, static_table
 

@@ -3,7 +3,7 @@ import re
 from functools import lru_cache
 from typing import NamedTuple
 
-from rendapil.bindings import TCP, UDP
+from rendapil.numbers import TCP, UDP
 
 BREAKS, UNSURE, TELLS, COPES, HIDDEN = "breaks", "unsure", "tells", "copes", "hidden"
 """What an address in a payload means for an application: others connect to it, or go by it; nobody knows, since the application isn't known; they only

@@ -4,7 +4,8 @@ from collections.abc import Callable
 from dataclasses import dataclass, field
 from typing import NamedTuple
 
-from rendapil.bindings import TCP, Bindings
+from rendapil.bindings import Bindings
+from rendapil.numbers import TCP
 from rendapil.packet import is_host, is_private
 from rendapil.payloads.addresses import FIELD, TEXT, XORED, Field
 from rendapil.payloads.applications import BREAKS, COPES, HIDDEN, TELLS, UNSURE, Application

@@ -9,7 +9,7 @@ from collections.abc import Iterator
 from ipaddress import IPv4Address
 from typing import NamedTuple
 
-from rendapil.bindings import CHANGED, FTP_PORT, SIDES, TCP, UDP
+from rendapil.numbers import CHANGED, FTP_PORT, SIDES, TCP, UDP
 from rendapil.frames import Event
 from rendapil.packet import ICMP, is_private
 from rendapil.payloads.addresses import (

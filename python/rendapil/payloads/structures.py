@@ -4,7 +4,7 @@ import struct
 from collections.abc import Callable, Iterator
 from contextlib import suppress
 
-from rendapil.bindings import LABELS, Names
+from rendapil.dns import LABELS, Names
 from rendapil.payloads.addresses import FIELD, Field, Find
 from rendapil.payloads.applications import BREAKS, TELLS
 

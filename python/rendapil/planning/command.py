@@ -9,7 +9,7 @@ from collections.abc import Iterator
 from contextlib import suppress
 from ipaddress import IPv4Address, IPv4Network
 
-from rendapil.bindings import SIDES
+from rendapil.numbers import SIDES
 from rendapil.ending import ended, fail, put_in_place, refuse_overwriting
 from rendapil.files import FORMS, Damaged, Record, shown
 from rendapil.frames import second_of

@@ -9,8 +9,9 @@ from dataclasses import dataclass, field
 from ipaddress import IPv4Network
 
 from rendapil.any_capture import whole_of
-from rendapil.bindings import ACK, CHANGED, DNS_PORT, FIN, LONG_TIMEOUT, NAME_HOLD, PING_HOLD, RST, SYN, TCP, TCP_HOLD, UDP, UDP_TIMEOUT, named_in
+from rendapil.dns import named_in
 from rendapil.files import ETHERNET, Record
+from rendapil.numbers import ACK, CHANGED, DNS_PORT, FIN, LONG_TIMEOUT, NAME_HOLD, PING_HOLD, RST, SYN, TCP, TCP_HOLD, UDP, UDP_TIMEOUT
 from rendapil.packet import ICMP, Packet, is_host, is_private
 from rendapil.payloads.applications import by_port
 from rendapil.payloads.kept import HOST, PRIVATE, Meant

@@ -7,8 +7,8 @@ from datetime import UTC, datetime
 from ipaddress import AddressValueError, IPv4Address
 from typing import NamedTuple
 
-from rendapil.bindings import SECOND, TCP, UDP
 from rendapil.files import shown
+from rendapil.numbers import SECOND, TCP, UDP
 from rendapil.packet import ICMP
 from rendapil.sayings import Fault
 

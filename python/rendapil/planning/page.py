@@ -3,8 +3,8 @@ from ipaddress import IPv4Address, IPv4Network
 from pathlib import Path
 from typing import TYPE_CHECKING, NamedTuple
 
-from rendapil.bindings import SIDES
 from rendapil.frames import second_of
+from rendapil.numbers import SIDES
 from rendapil.pages import STYLE, page_by, part_of
 from rendapil.payloads.scan import Told, plural, told_rows
 from rendapil.planning.firm import Firm, services_of

@@ -8,9 +8,9 @@ from ipaddress import IPv4Address
 from itertools import islice
 from typing import NamedTuple
 
-from rendapil.bindings import ACK, DNS_PORT, FTP_PORT, LONG_TIMEOUT, SECOND, SIDES, SYN, TCP, UDP
 from rendapil.files import Capture, Line, bare_head, lines, record_head, shown
 from rendapil.frames import verdicts_of
+from rendapil.numbers import ACK, DNS_PORT, FTP_PORT, LONG_TIMEOUT, SECOND, SIDES, SYN, TCP, UDP
 from rendapil.packet import Packet
 from rendapil.places import TOP
 from rendapil.planning.firm import Firm

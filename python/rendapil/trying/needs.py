@@ -6,7 +6,8 @@ from collections.abc import Callable, Mapping, Sequence
 from contextlib import suppress
 from typing import Protocol
 
-from rendapil.bindings import ACK, DNS_PORT, FIN, LONG_TIMEOUT, NAME_HOLD, PING_HOLD, RST, SECOND, SYN, TCP, TCP_HOLD, UDP, UDP_TIMEOUT, named_in
+from rendapil.dns import named_in
+from rendapil.numbers import ACK, DNS_PORT, FIN, LONG_TIMEOUT, NAME_HOLD, PING_HOLD, RST, SECOND, SYN, TCP, TCP_HOLD, UDP, UDP_TIMEOUT
 from rendapil.packet import ICMP, Packet, is_host
 
 HOUR, KNOWN = 3600 * SECOND, 100_000

@@ -1,7 +1,7 @@
 """What is odd in a capture as a whole: frames that are there twice, connections of which one direction is missing, and tunnels whose inside isn't seen."""
 from collections import Counter
 
-from rendapil.bindings import TCP, UDP
+from rendapil.numbers import TCP, UDP
 from rendapil.packet import Packet
 
 RECENT, PAIRS, FEW = 2048, 20_000, 8

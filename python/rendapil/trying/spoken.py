@@ -5,7 +5,7 @@ from bisect import bisect_left
 from collections.abc import Iterator
 from ipaddress import IPv4Address
 
-from rendapil.bindings import signed
+from rendapil.connections import signed
 from rendapil.streams import messages_in, whole_of_parts
 
 SIX = rb"(\d{1,3}),(\d{1,3}),(\d{1,3}),(\d{1,3}),(\d{1,3}),(\d{1,3})(?!\d)"

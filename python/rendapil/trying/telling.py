@@ -2,10 +2,10 @@
 from collections import Counter
 from ipaddress import IPv4Address, IPv4Network
 
-from rendapil.bindings import SECOND, SIDES
 from rendapil.explain.notes import Notes
 from rendapil.files import Capture, lines, shown
 from rendapil.frames import second_of, verdicts_of
+from rendapil.numbers import SECOND, SIDES
 from rendapil.sayings import quoted
 from rendapil.trying.needs import Need
 from rendapil.trying.two_realms import TwoRealms

@@ -13,9 +13,11 @@ from ipaddress import IPv4Address, IPv4Network, collapse_addresses
 from typing import NamedTuple
 
 from rendapil.any_capture import whole_of, why_none
-from rendapil.bindings import CHANGED, DNS_PORT, FTP_PORT, SIDES, SYN, TCP, UDP, Binding, Bindings, named_in
+from rendapil.bindings import Binding, Bindings
+from rendapil.dns import named_in
 from rendapil.document import Document, RealmTable, StaticTable
 from rendapil.files import RAW_IP, Record, bare_head, record_head, shown
+from rendapil.numbers import CHANGED, DNS_PORT, FTP_PORT, SIDES, SYN, TCP, UDP
 from rendapil.packet import ICMP, Packet, adjusted, is_host, total_of
 from rendapil.settings_text import pool_table, same_line, static_table
 from rendapil.streams import TRACKED
