@@ -105,8 +105,8 @@ class Compared(unittest.TestCase):
         """Status, and the causes by kind."""
         names = ("left-in", "right-in", "left-out", "right-out")
         files = [self.file(name, pcap(frames)) for name, frames in zip(names, self.came + self.went)]
-        status, told = said(self.settings, *files, *options)
-        return status, {kind: [row["cause"] for row in told["causes"] if row["kind"] == kind] for kind in (DIFFERENT, BY_RIGHT, UNSURE)}
+        status, self.told = said(self.settings, *files, *options)
+        return status, {kind: [row["cause"] for row in self.told["causes"] if row["kind"] == kind] for kind in (DIFFERENT, BY_RIGHT, UNSURE)}
 
     def place(self, side: int, fits: Callable[[bytes], bool], number: int = 0) -> int:
         """Which frame of the device fits."""
@@ -415,6 +415,16 @@ class Faults(Compared):
         place = self.place(0, plain_tcp)
         self.change(0, place, put(self.went[0][place][1], 60, b"\x99"))
         self.holds(["payload changed: TCP"])
+
+    def test_line_said_again(self) -> None:
+        """A line that comes twice: where one of both is sent otherwise, that one is told, and no password."""
+        for number, cause in ((0, "FTP: other lines are translated otherwise"), (1, "payload changed: FTP")):
+            went = list(self.went[1])
+            place = self.place(1, lambda one: service(one) == "FTP" and payload(one).startswith(b"USER anonymous"), number)
+            self.change(1, place, with_payload(self.went[1][place][1], b"LATE" + payload(self.went[1][place][1])[4:]))
+            self.holds([cause])
+            self.assertNotIn("PASS x", json.dumps(self.told))
+            self.went[1] = went
 
     def test_dns_not_translated(self) -> None:
         place = self.place(0, lambda one: service(one) == "DNS" and bytes((192, 168, 200, 7)) in payload(one))

@@ -258,10 +258,12 @@ class Direction:
                 continue
             by = self._off_by(place, octets)
             if by:
-                right = (one.sequence - by) % (1 << 32)
-                self._tell(f"{self.name}: sequence numbers off by {by:+d}", DIFFERENT, one, f"seq {one.sequence}", f"seq {right}")
+                number = (one.sequence - by) % (1 << 32)
+                self._tell(f"{self.name}: sequence numbers off by {by:+d}", DIFFERENT, one, f"seq {one.sequence}", f"seq {number}")
             else:
-                self._tell(f"payload changed: {self.name}", DIFFERENT, one, plain(octets[:60]), plain(self.model[place : place + 60]))
+                right = self._right_at(place, len(octets))
+                if octets != right:  # else it was sent otherwise before, which is told there
+                    self._tell(f"payload changed: {self.name}", DIFFERENT, one, self._in_words(octets), self._in_words(right))
                 covered.append((place, place + len(octets)))
         for begin, end in gaps(covered, len(self.model)):
             self._tell_gap(begin, end)
@@ -282,6 +284,20 @@ class Direction:
                 self._tell(
                     f"FTP: {what} isn't sent on, nor are its repeats", DIFFERENT, self._segment_at(place), device, "it once its line is whole", count
                 )
+
+    def _right_at(self, place: int, size: int) -> bytes:
+        """What the reference sends where the device sends so many octets."""
+        if self.port not in TRACKED:
+            return self.model[place : place + size]
+        number = bisect_right(self.places, place) - 1
+        start, found = place - self.places[number], b""
+        while number < len(self.wanted) and len(found) < start + size:
+            found, number = found + self.wanted[number], number + 1
+        return found[start : start + size]
+
+    def _in_words(self, octets: bytes) -> str:
+        """Octets of a connection in words, without what FTP keeps secret."""
+        return " ".join(ftp_lines(octets))[:120] if self.port == FTP_PORT else plain(octets[:60])
 
     def _is_at(self, place: int, octets: bytes) -> bool:
         """Whether the stream of the device has to have these octets at a place."""
