@@ -82,6 +82,17 @@ class Captures(unittest.TestCase):
             f"left and right are swapped: 4 of 4 frames go to the other realm's pool. Name {empty} before {self.back}",
         )
 
+    def test_pool_of_own_hosts(self) -> None:
+        """Where all frames come from the pool, its own hosts may have its addresses: no command is told, which would keep none."""
+        own = self.write("own", capture([udp("192.168.200.7", 5, "192.168.200.1", 4, b"x")] * 3))
+        self.assertEqual(
+            self.lines(own, self.back),
+            [
+                f"{own}: 3 of 3 frames come from the left pool: SourceInPool. "
+                "Choose a pool in which the realm has no hosts, if these are its own. Otherwise a gateway sent them"
+            ],
+        )
+
     def test_commands_mend(self) -> None:
         """Each file that the gateway doesn't read is told with the command that makes it one; where the command is there, it does."""
         whole = capture([GOOD] * 3)

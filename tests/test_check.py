@@ -133,6 +133,13 @@ class Check(unittest.TestCase):
                 [line.partition(" hosts, and ")[0] for line in lines], [f"{self.name}: oid: SNMP messages tell aliases of {bare}"] if bare else []
             )
 
+    def test_size_of_a_pool_whose_end_is_first(self) -> None:
+        """It has 0 addresses."""
+        self.lines_of(RIGHT.replace('"172.16.9.254"', '"172.16.8.254"'))
+        status, text = said(*CHECK, self.name)
+        self.assertEqual(status, 1)
+        self.assertIn("right pool: 172.16.9.1 to 172.16.8.254, 0 addresses for hosts of the left realm, 0 of them fixed\n", text)
+
     def test_examples(self) -> None:
         """Those of this repository are right, and told."""
         for name in (f"{MERGER}/settings.toml", f"{LIVE}/settings.toml", f"{TOP}/examples/live/settings.toml"):

@@ -362,6 +362,13 @@ class Script(unittest.TestCase):
         ):
             self.assertEqual(self.told(*self.run_words(**changed), line=line, status=status), (status, f"{line}\nrendapil: {more}\n"))
 
+    def test_full_disk(self) -> None:
+        """An output that takes nothing is said to, with what its disk has free, also where nothing of it is left."""
+        for slot, name in (("left_out", "lo"), ("report", "rep")):
+            status, told = self.told(*self.run_words(), line=f"write failed: {slot}", status=6)
+            self.assertEqual(status, 6)
+            self.assertRegex(told, rf"^write failed: {slot}\nrendapil: {slot}, {name}: it takes no more. Its disk has \d+ [MG]B free. All outputs are cut\n$")
+
     @unittest.skipUnless(os.geteuid() == 0, "only root mounts an overlay")
     def test_one_file_of_an_overlay(self) -> None:
         """An input by the merged folder is an output by the lower or the upper one, under another device number: it stays as it is."""

@@ -305,6 +305,8 @@ class Try(InRoom):
         self.assertIn("27 frames found their pool full: give a larger one by --pool", text)
         self.assertIn("right pool, for hosts of the left realm: 0 statics, 29 by use at the busiest moment", text)
         self.assertEqual(self.tried(name, "--left", "10.2.0.9/32", "--pool", "0")[0], 2)
+        status, text = self.tried(name, name, "--left", "10.2.0.9/32")
+        self.assertEqual((status, text.endswith(f"rendapil plan {name} {name}'\n")), (2, True), text)
         twice = self.write("twice", capture([udp("10.2.0.9", 1, f"10.1.0.{host}", 2, b"x") for host in range(9)]))
         self.assertIn("--pool has to be 9 at least", self.tried(twice, "--left", "10.1.0.0/16", "--pool", "5")[1])
 

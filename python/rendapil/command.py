@@ -42,7 +42,7 @@ HELP = f"""usage: rendapil [--quiet] [--untag] COMMAND WORDS
   fill CAPTURE NEW                                fills up frames that a capture has cut, so that run takes them
   plan LEFT RIGHT [OPTIONS]                       two networks before a merger: what overlaps, which settings they need, and what will break
   compare SETTINGS CAPTURE.. [OPTIONS]            says what a real device does otherwise, by its captures
-  export KIND SETTINGS [OPTIONS]                  writes the rules for a Linux gateway: nftables, iproute2
+  export KIND SETTINGS [OPTIONS]                  writes rules: nftables, iproute2; or cisco, junos, which are untried
   import nftables RULES                           writes settings of such rules
   test                                            tests the program and the tools
 {BUILDS}  --version | --program                           which program this is; where it is

@@ -63,8 +63,6 @@ def run_program(program: Path, words: Words) -> int:
     damaged = words.end_feeders()
     if checked:
         checked.join()
-    if status != 0:
-        words.remove_unwritten()
     if words.command == "run" and line == "write failed: report" and words.words[4:] == ["/dev/null", "/dev/null", "-"] and is_pipe("/dev/stdout"):
         return status  # nothing is lost
     if line:
@@ -77,6 +75,8 @@ def run_program(program: Path, words: Words) -> int:
         tell_more(line, words)
     elif not (sayings.QUIET and status <= 128):
         tell_end(status, words)
+    if status != 0:
+        words.remove_unwritten()  # behind what is said of them
     if status == INTERRUPTED:
         signal.signal(signal.SIGINT, signal.SIG_DFL)
         os.kill(os.getpid(), signal.SIGINT)

@@ -178,6 +178,8 @@ def told(paths: list[str], realms: "Realms", most: int = LOOKED_AT) -> Iterator[
             yield f"{shown(path)}: it {shown(looked.fault)}"
         which = f"of the first {looked.total}" if looked.total == most else f"of {looked.total}"
         known = mends(side, path, realms)
+        if looked.count["own"] == looked.total:  # no frame is one that hosts sent for sure
+            known["own"] = (known["own"][0], "Choose a pool in which the realm has no hosts, if these are its own. Otherwise a gateway sent them")
         for kind, count in looked.count.most_common():
             if kind in known and count:
                 yield f"{shown(path)}: {count} {which} frames {known[kind][0]}. {shown(known[kind][1])}"

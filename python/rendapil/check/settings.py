@@ -238,7 +238,7 @@ class Realms:
         """What the settings say."""
         for side, (first, last) in self.pools.items():
             fixed = sum(row[0] != side for row in self.statics)
-            print(f"{side} pool: {IPv4Address(first)} to {IPv4Address(last)}, {self.size(side)} addresses ", end="")
+            print(f"{side} pool: {IPv4Address(first)} to {IPv4Address(last)}, {max(0, self.size(side))} addresses ", end="")
             print(f"for hosts of the {OTHER[side]} realm, {fixed} of them fixed")
         for side, host, alias in self.statics:
             print(f"static: {side} {host} is {alias} on the {OTHER[side]}")

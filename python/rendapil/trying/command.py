@@ -46,7 +46,11 @@ def parsed() -> argparse.Namespace:
     parser.add_argument("--keep-cut", action="store_true", help="keep frames that the capture has cut as they are: they are refused")
     parser.add_argument("--out", metavar="FOLDER", default="rendapil-try", help="where the files go (rendapil-try)")
     parser.add_argument("--program", help=argparse.SUPPRESS)
-    words = parser.parse_args()
+    words, more = parser.parse_known_args()
+    if more and os.path.exists(more[0]):
+        parser.error(f"{shown(more[0])}: try takes one capture. Of two networks: '{called()} plan {quoted(words.capture)} {quoted(more[0])}'")
+    if more:
+        parser.error(f"unrecognized arguments: {shown(' '.join(more))}")
     if words.pool is not None and not 1 <= words.pool <= 65_534:
         parser.error("--pool: a pool has 1 to 65534 addresses")
     return words
@@ -127,7 +131,8 @@ def try_it(words: argparse.Namespace, capture: str) -> int:
     tell_realms(realms, counts, words.out)
     sys.stdout.flush()
     run = [files[name] for name in NAMES[:6]]
-    status = subprocess.run([words.program or TOP / "rendapil", "run", *run], check=False).returncode
+    command = [words.program] if words.program else [TOP / "rendapil", "--quiet"]  # what a run hints at isn't for a try
+    status = subprocess.run([*command, "run", *run], check=False).returncode
     if status:
         return status
     verdicts = verdicts_in(files["report.txt"])
