@@ -330,6 +330,22 @@ class Fields(unittest.TestCase):
             (UDP, 4000, 5351, b"\2\1" + bytes(16) + b"\xff\xff" + OWN + bytes(12), [("PCP, NAT-PMP", "breaks")]),
             (TCP, 445, 4000, SMB_HEAD + b"\x94\1\6\0" + bytes(40) + "\\10.0.0.6\\s".encode("utf-16-le"), [("SMB", "breaks")]),
             (TCP, 445, 4000, SMB_HEAD + bytes(44) + "\\10.0.0.5\\s".encode("utf-16-le"), [("SMB", "tells")]),
+            (TCP, 8787, 4000, b"\0\0\0\x04\x04\x08T\0\0\0\x30\x04\x08u:\x12DRb::DRbObject\x1bdruby://10.0.0.5:8787", [("dRuby", "breaks")]),
+            (TCP, 4000, 8787, b'\0\0\0\x10\x04\x08"\x0d10.0.0.5', [("dRuby", "tells")]),
+            (TCP, 9090, 4000, b"PYRO\0\x30" + bytes(18) + b"('PYRO','obj_1',None,'10.0.0.6',4000)", [("Pyro", "breaks")]),
+            (TCP, 9090, 4000, b"PYRO\1\xf6" + bytes(34) + b"PYRO:obj_1@10.0.0.6:4000", [("Pyro", "breaks")]),
+            (TCP, 9090, 4000, b"PYRO\0\x30" + bytes(18) + b"'a line about 10.0.0.6'", [("Pyro", "tells")]),
+            (TCP, 4000, 9100, b"\0\x19N" + bytes(12) + b"\0\x0ab@10.0.0.5", [("Erlang", "breaks")]),
+            (TCP, 4000, 9100, b"\0\x11n\0\5" + bytes(4) + b"b@10.0.0.5", [("Erlang", "breaks")]),
+            (TCP, 4000, 23, b"\xff\xfa\x23\x0010.0.0.5:0\xff\xf0", [("SSH, Telnet", "breaks")]),
+            (TCP, 4000, 23, b"\xff\xfa\x27\0\0DISPLAY\x0110.0.0.5:0\xff\xf0", [("SSH, Telnet", "breaks")]),
+            (TCP, 4000, 23, b"ping 10.0.0.5\r\n", [("SSH, Telnet", "tells")]),
+            (TCP, 4000, 6817, b"\x26\0" + bytes(20) + b"\0\0\0\x0910.0.0.5\0", [("Slurm", "breaks")]),
+            (TCP, 4000, 411, b"BINF AAAB NIa I410.0.0.5 U44000\n", [("Direct Connect", "breaks")]),
+            (TCP, 4000, 8554, b"SETUP rtsp://10.9.9.9/a RTSP/1.0\r\nTransport: RTP/AVP;destination=10.0.0.5\r\n", [("RTSP", "breaks")]),
+            (TCP, 8554, 4000, b"RTSP/1.0 200 OK\r\nTransport: RTP/AVP;source=10.0.0.6\r\n", [("RTSP", "breaks")]),
+            (TCP, 8554, 4000, b"RTSP/1.0 200 OK\r\n\r\no=- 1 1 IN IP4 10.0.0.6\r\nc=IN IP4 10.0.0.6\r\n", [("RTSP", "breaks")]),
+            (TCP, 8554, 4000, b"RTSP/1.0 200 OK\r\n\r\no=- 1 1 IN IP4 10.0.0.6\r\nc=IN IP4 0.0.0.0\r\n", [("RTSP", "tells")]),
             (TCP, 4000, 8786, b"\x82\xa2op\xa8register\xa7address\xb4tcp://10.0.0.5:4000", [("Dask", "breaks")]),
             (TCP, 4000, 11311, b"POST / HTTP/1.1\r\nHost: 192.168.200.1:11311\r\n\r\n<value>http://10.0.0.5:4000/</value>", [("ROS", "breaks")]),
             (UDP, 4000, 2223, b"7_1 d7:command5:offer3:sdp40:v=0\r\no=- 1 1 IN IP4 10.0.0.5\r\n", [("rtpengine, rtpproxy", "tells")]),
@@ -356,6 +372,20 @@ class Fields(unittest.TestCase):
             )
             answer = b"HTTP/1.1 301 Moved\r\nLocation: http://" + location + b"\r\n\r\n"
             scan.take(2, 1, tcp(*back, 24, 1, 1, answer), [tcp("192.168.200.9", 80, "10.0.0.7", 4000, 24, 1, 1, answer)])
+            self.assertEqual([row.weight for row in told_rows(scan)], [weight])
+
+    def test_base_of_rtsp(self) -> None:
+        """The base with the address that the client asked for would have the alias, and works; another host's doesn't."""
+        for base, weight in ((b"10.0.0.9:8554/a/", "tells"), (b"10.0.0.5:8554/a/", "breaks")):
+            scan = Scan(meaning_in(Bindings(document_in(RIGHT + STATICS), lambda _: None)))
+            request = b"DESCRIBE rtsp://10.0.0.9:8554/a RTSP/1.0\r\nCSeq: 1\r\n\r\n"
+            scan.take(
+                1, 0, tcp("10.0.0.7", 4000, "192.168.200.9", 8554, 24, 1, 1, request), [tcp("172.16.9.7", 4000, "10.0.0.9", 8554, 24, 1, 1, request)]
+            )
+            answer = b"RTSP/1.0 200 OK\r\nContent-Base: rtsp://" + base + b"\r\n\r\n"
+            scan.take(
+                2, 1, tcp("10.0.0.9", 8554, "172.16.9.7", 4000, 24, 1, 1, answer), [tcp("192.168.200.9", 8554, "10.0.0.7", 4000, 24, 1, 1, answer)]
+            )
             self.assertEqual([row.weight for row in told_rows(scan)], [weight])
 
     def test_known_to_the_reader(self) -> None:

@@ -101,9 +101,13 @@ APPLICATIONS = [
     Application("Elasticsearch", (9200, 9300), (), TELLS, "clients that sniff connect to publish_address", "sniffing off, or network.publish_host by name"),
     Application("Cassandra", (9042,), (), BREAKS, "tables and events tell the addresses of nodes", "an address translator in the driver, or nodes and clients in one realm"),
     Application("etcd", (2379, 2380), (), BREAKS, "members tell the URLs for clients and peers", "advertise-client-urls by name"),
-    Application("Consul, Nomad", (8300, 8500, 4646), (7946, 8301, 8302), BREAKS, "catalogues and gossip tell addresses", "advertise addresses, or a mesh gateway"),
+    Application("Consul, Nomad, Serf", (8300, 8500, 4646), (7946, 8301, 8302), BREAKS, "catalogues and gossip tell addresses", "advertise addresses, or a mesh gateway"),
     Application("NATS", (4222,), (), TELLS, "INFO tells connect_urls", "no_advertise, or names"),
     Application("Dask", (8786,), (), TELLS, "the scheduler, workers and clients tell each other's addresses", "contact addresses by name"),
+    Application("dRuby", (8787,), (), TELLS, "references to objects have the URI of their server", "URIs by name"),
+    Application("Pyro", (), (), TELLS, "URIs of objects have the server's address", "natHost by name"),
+    Application("Erlang", (4369,), (), TELLS, "names of nodes hold their addresses", "names of nodes by host name"),
+    Application("Slurm", (6817, 6818), (), BREAKS, "the controller tells the addresses of nodes and of who asks", "NodeAddr by name, and the cluster in one realm"),
     Application("Spark", (7077,), (), BREAKS, "the driver, the master and workers tell each other's addresses", "spark.driver.host and SPARK_LOCAL_HOSTNAME by name"),
     Application("Hadoop", (8020,), (), BREAKS, "the name node tells the addresses of data nodes", "dfs.client.use.datanode.hostname = true, and names"),
     Application("Pulsar", (6650,), (), BREAKS, "lookups tell the addresses of brokers", "advertisedAddress by name, or a proxy"),
@@ -148,7 +152,7 @@ APPLICATIONS = [
     Application("talk", (), (517, 518), BREAKS, "invitations tell where to connect", "another way to talk"),
     Application("ICP", (), (3130,), TELLS, "requests tell the client's address", "nothing"),
     Application("Git, Subversion", (9418, 3690), (), TELLS, "requests name the server", "nothing, or names"),
-    Application("SSH, Telnet", (22, 23), (), TELLS, "what users type", "nothing"),
+    Application("SSH, Telnet", (22, 23), (), TELLS, "DISPLAY, and what users type", "X11 inside SSH"),
     Application("memcached", (11211,), (11211,), TELLS, "values and statistics", "nothing"),
     Application("AMQP", (5672,), (), TELLS, "properties of a client", "nothing"),
     Application("Zabbix, NRPE", (5666, 10050, 10051), (), TELLS, "names of hosts and values", "hosts under their aliases"),
@@ -171,7 +175,7 @@ BY_PORT = {(protocol, port): one for one in APPLICATIONS for protocol, ports in 
 VAGUE = {(TCP, port) for port in (3128, 4222, 6667, *range(7000, 7006), 8000, 8080)}
 """Ports that others use too: only what is said there tells."""
 
-SHARED = ("HTTP", "IPP", "TLS", "Elasticsearch", "Consul, Nomad", "BitTorrent", "RMI, JMX")
+SHARED = ("HTTP", "IPP", "TLS", "Elasticsearch", "Consul, Nomad, Serf", "BitTorrent", "RMI, JMX")
 """Applications whose messages may be those of another one, which is told by what is said."""
 
 SIGNATURES = [
@@ -214,6 +218,9 @@ SIGNATURES = [
     ("OPC UA", re.compile(rb"(?:HEL|ACK|OPN|MSG)F(?s:.{2})\x00\x00(?s:.{4})")),
     ("Direct Connect", re.compile(rb"\$Lock EXTENDEDPROTOCOL|[HI]SUP AD")),
     ("ActiveMQ", re.compile(rb"(?s:.{4})\x01ActiveMQ")),
+    ("dRuby", re.compile(rb"\x00(?s:.{3})\x04\x08[0TF\"i]")),
+    ("Pyro", re.compile(rb"PYRO[\x00-\x02]")),
+    ("Erlang", re.compile(rb"\x00(?s:.)(?:n\x00\x05(?s:.{4,8})|N(?s:.{12,16})\x00(?s:.))[\w-]{1,60}@")),
     ("Hadoop", re.compile(rb"hrpc[\x04-\x0f]")),
     ("WS-Discovery, ONVIF", re.compile(rb"(?s:.{0,400})(?:ws/2005/04/discovery|onvif\.org)")),
     ("MGCP, Megaco", re.compile(rb"(?:CRCX|MDCX|DLCX|RQNT|NTFY|AUEP|RSIP) \d+ |MEGACO/|!/")),

@@ -6,7 +6,7 @@ from functools import partial
 from rendapil.payloads import structures
 from rendapil.payloads.addresses import FIELD, Field, Find
 from rendapil.payloads.applications import BREAKS, TELLS
-from rendapil.payloads.structures import NODE, ROUTE, ROUTER, SEEN, all_behind, at_place
+from rendapil.payloads.structures import MOST, NODE, PEERS_TOLD, ROUTE, ROUTER, SEEN, all_behind, at_place
 
 TUNNEL = Field("where a tunnel ends", BREAKS)
 SUBSCRIBER = Field("the address of a subscriber inside the tunnel", TELLS)
@@ -56,6 +56,17 @@ def knx(payload: bytes) -> Iterator[Find]:
     """Endpoints of control and of data in KNXnet/IP."""
     if payload[:2] == b"\x06\x10" and int.from_bytes(payload[4:6]) <= len(payload):
         yield from all_behind(payload, re.compile(rb"\x08[\x01\x02]"), ANSWERS)
+
+
+TOLD_TO_HUB = re.compile(rb" I4(\d{1,3}(?:\.\d{1,3}){3})(?=[ \n])")
+
+
+def adc(payload: bytes) -> Iterator[Find]:
+    """I4 of a client's INF in ADC, as text behind the field's name."""
+    for count, one in enumerate(TOLD_TO_HUB.finditer(payload) if payload[1:5] == b"INF " else ()):
+        octets = [int(part) for part in one[1].split(b".")]
+        if count < MOST and max(octets) < 256:
+            yield Find(FIELD, one.start(1), one.end(1), int.from_bytes(bytes(octets)), field=PEERS_TOLD)
 
 
 def bacnet(payload: bytes) -> Iterator[Find]:
@@ -227,6 +238,7 @@ DECODERS: dict[str, Callable[[bytes], Iterator[Find]]] = {
     **{name: partial(told_behind, patterns) for name, patterns in BEHIND.items()},
     "KNXnet/IP": knx,
     "BACnet": bacnet,
+    "Direct Connect": adc,
     "Mobile IP": mobile_ip,
     "flow records": flow_records,
     "tunnels of packets": teredo,

@@ -47,6 +47,7 @@ RULES: dict[str, list[Rule]] = {
     ],
     "RTSP": [
         rule(rb"^[A-Z_]+ rtsp:|^User-Agent|^Server|^Via", TELLS, "what a request is for"),
+        rule(rb"^[os]=", TELLS, "a line that only identifies"),
         rule(rb"^Transport\s*:", BREAKS, "Transport tells where streams come from and go to"),
         rule(rb"^Location\s*:", BREAKS, "a redirect that clients follow"),
         rule(rb"^(?:c|a)=", BREAKS, "SDP tells where streams go"),
@@ -85,6 +86,9 @@ RULES: dict[str, list[Rule]] = {
     "PostgreSQL": [rule(rb"\bhost(?:addr)?\s*=\s*'?$", BREAKS, "the server connects to it")],
     "etcd": [rule(rb"https?://$", BREAKS, "a member's URL, to which clients and members connect"), rule(rb"", TELLS, "a name or a value has it")],
     "Dask": [rule(rb"(?:tcp|tls|ucx)://$", BREAKS, "others connect to a contact address"), rule(rb"", TELLS, "a name or a value has it")],
+    "dRuby": [rule(rb"dr\w+://$", BREAKS, "a reference to an object, to whose server clients connect")],
+    "Pyro": [rule(rb"PYRO\W[^)@]*(?:@|None,\s*['\"])$", BREAKS, "the URI of an object, to whose server clients connect")],
+    "Erlang": [rule(rb"@$", BREAKS, "the name of a node: peers that know it by another one are refused")],
     "ROS": [rule(rb"^(?:Host|User-Agent|Server)\s*:", TELLS, "whom a request is for")],
     "rtpengine, rtpproxy": [rule(rb"^(?:o|s)=", TELLS, "a line that only identifies")],
     "NATS": [rule(rb"connect_urls[^\]]*$", BREAKS, "clients also connect to connect_urls")],
@@ -127,14 +131,14 @@ MADE_OF_HOST = Field("a redirect to the host that was asked for: servers make it
 LINKED = HTTP_RULES[-3:-1]
 """Rules of links: what has the address that the client asked for is taken as made of it."""
 
-WEB = ("HTTP", "SSDP, UPnP", "WS-Discovery, ONVIF", "Elasticsearch", "Consul, Nomad", "IPP", "BitTorrent", "TLS")
+WEB = ("HTTP", "SSDP, UPnP", "WS-Discovery, ONVIF", "Elasticsearch", "Consul, Nomad, Serf", "IPP", "BitTorrent", "TLS")
 PRINTER = Field("the URI of a printer, to which clients connect", BREAKS)
 MORE_RULES: dict[str, list[Rule]] = {
     "IPP": [(re.compile(rb"ipps?://$"), PRINTER)],
     "SSDP, UPnP": [rule(rb"^(?:Host|User-Agent|Server)\s*:", TELLS, "whom a request is for")],
     "WS-Discovery, ONVIF": [rule(rb"^(?:Host|User-Agent|Server)\s*:", TELLS, "whom a request is for")],
     "BitTorrent": [rule(rb"[?&]ip=$", BREAKS, "the tracker tells this address to other peers"), rule(rb"", TELLS, "whom a request is for")],
-    "Consul, Nomad": [rule(rb"^(?:Host|User-Agent|Server)\s*:", TELLS, "whom a request is for")],
+    "Consul, Nomad, Serf": [rule(rb"^(?:Host|User-Agent|Server)\s*:", TELLS, "whom a request is for")],
 }
 GET_REFERRALS = b"\x94\x01\x06\x00"
 """FSCTL_DFS_GET_REFERRALS, as the answer of SMB 2 repeats it."""
@@ -178,6 +182,25 @@ def of_smb(place: Place, before: bytes) -> Field | None:
     return DFS if place.is_served and is_referral else SHARE
 
 
+ASKED = Field("the URL that was asked for: servers repeat it, which would have the alias", TELLS)
+BASE = re.compile(rb"(?i)^(?:Content-Base|Content-Location|RTP-Info)\s*:")
+
+
+def of_rtsp(place: Place, before: bytes) -> Field | None:
+    """The base of the URLs: one with the address that the client asked for is taken as repeated."""
+    asked = re.match(rb"[A-Z_]+ rtsps?://(?:[^\s/@]*@)?([^\s/:]+)", place.asked)
+    return ASKED if BASE.search(before) and asked and asked[1] == place.payload[place.find.at : place.find.end] else None
+
+
+TOLD_DISPLAY = re.compile(rb"\xff\xfa#\0$|DISPLAY[\0\1]$")
+DISPLAY = Field("the display to which programs of the other side connect", BREAKS)
+
+
+def of_telnet(place: Place, before: bytes) -> Field | None:
+    """X-DISPLAY-LOCATION (RFC 1096), or DISPLAY of the environment (RFC 1572)."""
+    return DISPLAY if TOLD_DISPLAY.search(place.payload[max(0, place.find.at - 8) : place.find.at]) else None
+
+
 VIA = re.compile(rb"(?i)^(?:Via|v)\s*:")
 ANSWERED = Field("Via tells where answers go, where there is no rport", BREAKS)
 RPORT = Field("Via with rport: answers go back the way that requests came", TELLS)
@@ -214,6 +237,8 @@ def of_sql_server(place: Place, before: bytes) -> Field | None:
 
 SPECIAL = {
     "SIP": of_sip,
+    "RTSP": of_rtsp,
+    "SSH, Telnet": of_telnet,
     "SMB": of_smb,
     "Oracle": of_oracle,
     "NFS": of_nfs,

@@ -158,7 +158,7 @@ class Scan:
         app.trials += len(payload) * flow.weight
         if not app.of.name:
             app.together.count += len(payload) * flow.weight
-        if payload[:4] in METHODS or app.of.name == "SOCKS" and not flow.is_served:
+        if payload[:4] in METHODS or app.of.name in ("SOCKS", "RTSP") and not flow.is_served:
             flow.asked = payload[:LONG]
         finds = self._finds(flow, payload)
         if flow.is_changed:
