@@ -367,7 +367,9 @@ class Script(unittest.TestCase):
         for slot, name in (("left_out", "lo"), ("report", "rep")):
             status, told = self.told(*self.run_words(), line=f"write failed: {slot}", status=6)
             self.assertEqual(status, 6)
-            self.assertRegex(told, rf"^write failed: {slot}\nrendapil: {slot}, {name}: it takes no more. Its disk has \d+ [MG]B free. All outputs are cut\n$")
+            self.assertRegex(
+                told, rf"^write failed: {slot}\nrendapil: {slot}, {name}: it takes no more. Its disk has \d+ [MG]B free. All outputs are cut\n$"
+            )
 
     @unittest.skipUnless(os.geteuid() == 0, "only root mounts an overlay")
     def test_one_file_of_an_overlay(self) -> None:
