@@ -23,10 +23,11 @@ from unittest import mock
 
 from testing import CASE, CHECK, EXPLAIN, INPUTS, LIVE, MERGER, OUTPUTS, PROGRAM, RIGHT, TOP, datagram, said
 
-from rendapil import bindings, frames, numbers
+from rendapil import bindings, frames
 from rendapil.document import document_in
 from rendapil.files import Record, line_of, lines
 from rendapil.explain import command as explain, gathered as collected, story as stories
+from rendapil.numbers import SIDES, TCP, UDP
 
 HAS_JINJA = bool(find_spec("jinja2")) or said("/usr/bin/python3", "-I", "-c", "import jinja2, tomllib")[0] == 0
 WAYS = (("10.0.0.5 > 192.168.200.1", "172.16.9.1 > 10.0.0.53"), ("10.0.0.53 > 172.16.9.1", "192.168.200.1 > 10.0.0.5"))
@@ -65,7 +66,7 @@ def write_run(room: str, events: Iterable[Happened], names: Iterable[str] = NAME
             one = datagram(WAYS[side][way], protocol, payload)
             if place < 2 or verdict == "pass":
                 sides[place] += struct.pack("<IIII", number, 0, len(one), len(one)) + one
-        report += f"{number} {numbers.SIDES[side]} {number}000000000 {verdict} {int(verdict == 'pass')}\n"
+        report += f"{number} {SIDES[side]} {number}000000000 {verdict} {int(verdict == 'pass')}\n"
         passed += verdict == "pass"
     contents = [
         (RIGHT + STATIC).encode(),
@@ -92,7 +93,7 @@ def session(port: int, *payloads: tuple[bytes, bytes]) -> list[Happened]:
         parts.append((0, 24, at, came, went))
         at += len(came)
     return [
-        Happened(side, numbers.TCP, segment(side, port, flags, number, came), segment(side, port, flags, number, went))
+        Happened(side, TCP, segment(side, port, flags, number, came), segment(side, port, flags, number, went))
         for side, flags, number, came, went in parts
     ]
 
@@ -282,7 +283,10 @@ class Explain(InRoom):
         """Reasons are red on a terminal, unless NO_COLOR or TERM say otherwise."""
         cases: list[tuple[dict[str, str], bool]] = [({}, True), ({"NO_COLOR": "1"}, False), ({"TERM": "dumb"}, False)]
         for names, is_red in cases:
-            own, other = pty.openpty()
+            try:
+                own, other = pty.openpty()
+            except OSError:
+                self.skipTest("there is no pseudo-terminal")
             kept = {name: value for name, value in os.environ.items() if name != "NO_COLOR"}
             subprocess.run([*EXPLAIN, *INPUTS, *OUTPUTS], env={**kept, "TERM": "xterm", **names}, stdout=other, check=True)
             os.close(other)
@@ -551,7 +555,7 @@ class Lines(InRoom):
         """They are one line of ASCII each."""
         question = struct.pack(">HHHH", 4000, 53, 0, 0) + named(b'\x1b]0;owned\x07\n"')
         answer = question[:-5] + b"x" + question[-4:]
-        files = write_run(self.room, [*session(21, (HOSTILE + b"\r\n", b"\x1b" + HOSTILE + b"\r\n")), Happened(0, numbers.UDP, question, answer)])
+        files = write_run(self.room, [*session(21, (HOSTILE + b"\r\n", b"\x1b" + HOSTILE + b"\r\n")), Happened(0, UDP, question, answer)])
         status, text = said(*EXPLAIN, "--events", *files)
         self.assertEqual((status, [json.loads(line)["event"] for line in text.splitlines()]), (0, [1, 2, 3, 4, 5]))
         self.assertTrue(text.isascii() and all(line.isprintable() for line in text.splitlines()))
@@ -561,7 +565,7 @@ class Lines(InRoom):
         name = b"\x3f" + b"\x01" * 63 + b"\x3f" + b"\x02" * 63 + b"\0"
         records = name + struct.pack(">HHIH", 16, 1, 0, 0) + (b"\xc0\x0c" + struct.pack(">HHIH", 16, 1, 0, 0)) * 38
         answer = struct.pack(">HHHH", 53, 4000, 0, 0) + struct.pack(">6H", 7, 0x8180, 0, 39, 0, 0) + records
-        files = write_run(self.room, [Happened(0, numbers.UDP, answer, answer[:-6] + b"\0\0\0\x09\0\0")])
+        files = write_run(self.room, [Happened(0, UDP, answer, answer[:-6] + b"\0\0\0\x09\0\0")])
         status, text = said(*EXPLAIN, "--events", *files)
         line = json.loads(text)
         self.assertEqual(status, 0)

@@ -176,6 +176,7 @@ class Plain(InRoom):
         self.assertGreater(sum(map(bool, done)), 800)
 
 
+@unittest.skipUnless(HAS_SCAPY and os.access(PROGRAM, os.X_OK), "there is no python3-scapy, or the program isn't built")
 class Try(InRoom):
     """What `try` makes of an ordinary capture."""
 

@@ -10,7 +10,11 @@ from rendapil.sayings import Fault
 
 
 def fail(name: str, text: str, status: int = 1) -> NoReturn:
-    """Ends a tool with a line, in place of how far the reading is."""
+    """Ends a tool with a line, in place of how far the reading is. It stands behind what was told before."""
+    try:
+        sys.stdout.flush()
+    except (OSError, ValueError):
+        sys.stdout = open(os.devnull, "w")  # nothing more goes there
     print(("\033[K" if sys.stderr.isatty() else "") + f"rendapil {name}: {text}", file=sys.stderr)
     sys.exit(status)
 
