@@ -5,8 +5,8 @@ from collections.abc import Iterable, Iterator
 Event = tuple[str, bytes]
 """A side and a frame that comes from it."""
 
-# The head of a little-endian capture of raw datagrams, with microseconds.
-HEAD = struct.pack("<IHHiIII", 0xA1B2C3D4, 2, 4, 0, 0, 262144, 101)
+RAW, ETHERNET = 101, 1
+"""The link types of captures of bare datagrams and of Ethernet frames."""
 
 # Settings of both realms, with bare datagrams.
 REALMS = """
@@ -82,13 +82,18 @@ def record(seconds: int, microseconds: int, octets: bytes) -> bytes:
     return struct.pack("<IIII", seconds, microseconds, len(octets), len(octets)) + octets
 
 
-def write_run(folder: str, settings: str, records: Iterable[bytes], right: Iterable[bytes] = ()) -> None:
+def head(link: int = RAW) -> bytes:
+    """The head of a little-endian capture with microseconds."""
+    return struct.pack("<IHHiIII", 0xA1B2C3D4, 2, 4, 0, 0, 262144, link)
+
+
+def write_run(folder: str, settings: str, records: Iterable[bytes], right: Iterable[bytes] = (), *, link: int = RAW) -> None:
     """Writes the settings, a left capture of these records, and a right one, without any where none are given."""
     with open(f"{folder}/settings.toml", "w") as text:
         text.write(settings)
     for side, whole in (("left", records), ("right", right)):
         with open(f"{folder}/{side}.pcap", "wb") as out:
-            out.write(HEAD)
+            out.write(head(link))
             out.writelines(whole)
 
 

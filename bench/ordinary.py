@@ -3,10 +3,8 @@ import random
 import struct
 from collections.abc import Iterator
 
-from datagrams import quad
-
-HEAD = struct.pack("<IHHiIII", 0xA1B2C3D4, 2, 4, 0, 0, 262144, 1)
-"""The head of a little-endian capture of Ethernet frames, with microseconds."""
+import datagrams
+from datagrams import ETHERNET, quad
 
 CLIENTS, SERVERS, STEP, STAYS, BULK = 1000, 40, 50, 0x4000, 120
 """How many hosts of each realm there are, how many microseconds lie between frames, the flag that forbids fragments, and the segments of a long answer."""
@@ -123,5 +121,5 @@ def frames_of_office(frames: int) -> Iterator[bytes]:
 def write_office(path: str, frames: int) -> None:
     """Writes a capture of so many frames."""
     with open(path, "wb", 1 << 18) as out:
-        out.write(HEAD)
+        out.write(datagrams.head(ETHERNET))
         out.writelines(frames_of_office(frames))

@@ -1,7 +1,7 @@
 /* yardstick LEFT RIGHT LEFT_OUT RIGHT_OUT REPORT: what frames cost a program that does for the workloads of `bench/run` what the gateway
  * does for them, without settings, clocks of bindings, sessions or names. It takes the frames of two raw little-endian captures in the order
  * of their stamps, verifies both sums, renames both addresses by tables, adjusts the sums (RFC 1624), and writes both captures and the
- * report of one line a frame, the same octets as the gateway. It trusts its input. */
+ * report of one line a frame, the same octets as the gateway. Captures of Ethernet go out with the addresses below. It trusts its input. */
 #include <arpa/inet.h>
 #include <fcntl.h>
 #include <stdint.h>
@@ -15,7 +15,8 @@ enum { BUFFER = 1 << 20, LONGEST = 1 << 18, SIDES = 2 };
 struct input { int file; uint8_t *octets; size_t start, end; };
 struct output { int file; uint8_t *octets; size_t length; };
 
-static const uint8_t HEAD[24] = "\x4d\x3c\xb2\xa1\2\0\4\0\0\0\0\0\0\0\0\0\0\0\4\0\x65";
+static const uint8_t HEAD[20] = "\x4d\x3c\xb2\xa1\2\0\4\0\0\0\0\0\0\0\0\0\0\0\4\0";
+static const uint8_t ETHERNET[SIDES][14] = {"\2\0\0\0\0\2\2\0\0\0\0\1\x08\0", "\2\0\0\0\1\2\2\0\0\0\1\1\x08\0"}; /* what goes out to each realm */
 static uint32_t alias_of[1 << 16], host_of[256], hosts; /* hosts of the left realm, by their last octets, in network order */
 
 static uint16_t get16(const uint8_t *at) { uint16_t value; memcpy(&value, at, 2); return value; }
@@ -125,23 +126,28 @@ int main(int count, char **words) {
     struct input in[SIDES];
     struct output out[SIDES], report = created(words[5]);
     uint64_t next[SIDES], events = 0, sent[SIDES] = {0, 0};
+    size_t front = 0; /* the octets in front of a datagram */
     for (int side = 0; side < SIDES; side++) {
         in[side] = (struct input){open(words[1 + side], O_RDONLY), malloc(BUFFER + LONGEST), 0, 0};
         out[side] = created(words[3 + side]);
         if (!has(&in[side], 24)) return 7;
+        const uint8_t *link = in[side].octets + 20;
+        front = get32(link) == 1 ? sizeof ETHERNET[side] : 0;
         in[side].start += 24;
-        memcpy(room(&out[side], 24), HEAD, 24);
+        memcpy(room(&out[side], 20), HEAD, 20);
+        memcpy(room(&out[side], 4), link, 4);
         next[side] = stamp(&in[side]);
     }
     alias(htonl(0x0a000005));
     while (next[0] != UINT64_MAX || next[1] != UINT64_MAX) {
         int side = next[0] > next[1];
         size_t length = get32(in[side].octets + in[side].start + 8);
-        if (!has(&in[side], 16 + length) || !is_right(in[side].octets + in[side].start + 16, length)) return 4;
+        if (!has(&in[side], 16 + length) || !is_right(in[side].octets + in[side].start + 16 + front, length - front)) return 4;
         uint8_t *sent_as = room(&out[!side], 16 + length);
         memcpy(sent_as, in[side].octets + in[side].start, 16 + length);
         put32(sent_as + 4, next[side] % 1000000000);
-        rename_datagram(sent_as + 16, side);
+        memcpy(sent_as + 16, ETHERNET[!side], front);
+        rename_datagram(sent_as + 16 + front, side);
         in[side].start += 16 + length;
         sent[!side]++;
         put_line(&report, ++events, side, next[side]);

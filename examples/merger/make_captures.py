@@ -6,7 +6,7 @@ import sys
 from typing import NamedTuple
 
 sys.path.insert(0, os.path.join(os.path.dirname(os.path.abspath(__file__)), "../../bench"))
-from datagrams import HEAD, fragments, icmp, quad, record, tcp, udp
+from datagrams import fragments, head, icmp, quad, record, tcp, udp
 
 FIN, SYN, PSH, ACK = 1, 2, 8, 16
 
@@ -32,7 +32,7 @@ class Captures:
         """Writes both."""
         for realm, frames in self.frames.items():
             with open(os.path.join(folder, realm + ".pcap"), "wb") as out:
-                out.write(HEAD + b"".join(frames))
+                out.write(head() + b"".join(frames))
 
 
 def log_and_time(captures: Captures) -> None:
