@@ -119,7 +119,7 @@ class Page:
                     said += f"At most {pool.most:,} were taken ({100 * pool.most // pool.size} %), first at {clock(pool.most_at)}. "
                 if run.first_empty[side]:
                     said += f"First PoolEmpty at {clock(run.first_empty[side])}."
-                pictures.append(filled(f"Pool of the {SIDES[side]} realm", said, parts, axis, side, pool.size, pool.fixed))
+                pictures.append(filled(said, parts, axis, side, pool))
             found.append((kind, pictures))
         return found
 

@@ -4,8 +4,9 @@ from collections.abc import Callable, Iterable, Iterator
 from dataclasses import dataclass, field
 from typing import NamedTuple
 
-from rendapil.numbers import SECOND
+from rendapil.bindings import Pool
 from rendapil.frames import second_of
+from rendapil.numbers import SECOND, SIDES
 from rendapil.explain.gathered import Parts
 
 WIDTH, HEIGHT, LEFT, TOP, BOTTOM = 1000, 190, 62, 8, 22
@@ -148,9 +149,10 @@ def is_near(fixed: int, size: int) -> bool:
     return 0 < fixed and height(fixed, size) - height(size, size) < 30
 
 
-def filled(name: str, said: str, parts: Parts, axis: Axis, side: int, size: int, fixed: int) -> Picture:
-    """How full a pool was, drawn to its size."""
-    top = size
+def filled(said: str, parts: Parts, axis: Axis, side: int, pool: Pool) -> Picture:
+    """How full the pool of a side was, drawn to its size."""
+    top = size = pool.size
+    fixed = pool.fixed
     path, told, marks = [], [], []
     for place, part in enumerate(parts.parts):
         start, end = (parts.start or 0) + place * parts.width, (parts.start or 0) + (place + 1) * parts.width
@@ -166,4 +168,4 @@ def filled(name: str, said: str, parts: Parts, axis: Axis, side: int, size: int,
     area = f"{line}V{height(0, top):.1f}H{LEFT}z" if line else ""
     lines = [(round(height(size, top), 1), f"size {size:,}" + (f", {fixed:,} fixed" if is_near(fixed, size) else ""))]
     lines += [(round(height(fixed, top), 1), f"{fixed:,} fixed")] if fixed and not is_near(fixed, size) else []
-    return Picture(name, said, [("level", area), ("edge", line)], axis.ticks(), ups(top), told, lines, marks)
+    return Picture(f"Pool of the {SIDES[side]} realm", said, [("level", area), ("edge", line)], axis.ticks(), ups(top), told, lines, marks)
