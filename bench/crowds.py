@@ -212,6 +212,11 @@ def fanned(most: int, reverse: int, suffixes: int, tail: int, led: int = 0) -> b
     return struct.pack(">6H", 7, 0x8180, 0, len(records), 0, 0) + b"".join(records)
 
 
+FANS: dict[str, tuple[int, int]] = {"reverse": (1, 900), "suffixes": (1, 250), "tail": (1, 123)}
+SHORT_FANS: dict[str, tuple[int, int]] = {"reverse": (1, 120), "suffixes": (1, 60), "tail": (1, 123)}
+"""What a climb goes through, in a datagram and in a message over TCP."""
+
+
 def forked(octets: int, bits: int = 504, tail: int = 1) -> Iterator[bytes]:
     """Labels of so many octets in front of one name, each of which differs from the ones before it in another bit, and then in a number."""
     names = itertools.chain((1 << 8 * octets - 1 - bit for bit in range(min(bits, 8 * octets))), itertools.cycle(range(min(1 << 20, 256**octets))))
