@@ -18,7 +18,7 @@ from unittest.mock import patch
 from testing import PROGRAM, TOP, TRY, capture, said
 
 from rendapil.trying.reading import records
-from datagrams import fragments, icmp, tcp, udp  # testing says where it is
+from datagrams import datagram, fragments, icmp, tcp, udp  # testing says where it is
 from rendapil.explain.pcapng import block
 from rendapil.trying.two_realms import TwoRealms, Way, plainly_moved
 
@@ -281,6 +281,23 @@ class Try(InRoom):
         command = next(line for line in text.splitlines() if line.startswith(f"  {TRY[0]} try"))
         self.assertIn("--same 216.158.211.140/30", command)
         self.assertEqual(self.counts(self.tried(*command.split()[2:], "--public")[1]), {"pass": len(frames)})
+
+    def test_nothing_passes(self) -> None:
+        """It is said aloud, and the status tells it."""
+        sctp = datagram(132, "10.1.0.5", "10.2.0.9", bytes(32), 0)
+        status, text = self.tried(self.write("capture", pcap(101, [sctp] * 3)), "--left", "10.1.0.0/16")
+        self.assertEqual(status, 1)
+        self.assertIn("\n0 of 3 frames that go to the gateway pass.\n", text)
+        self.assertIn("\nNo frame passes: nothing in this capture works through the gateway.\n", text)
+        self.assertIn("\nNo payload was looked at\n", text)
+        self.assertNotIn("\n\n\n", text)
+
+    def test_own_captures(self) -> None:
+        """The capture that a try wrote has each frame twice, and is no capture of a network."""
+        self.assertEqual(self.tried(self.write("capture", capture(login())), "--left", "10.1.0.0/16")[0], 0)
+        name = f"{self.room}/out/run.pcapng"
+        status, text = said(*TRY, name, "--left", "10.1.0.0/16", "--out", f"{self.room}/again", "--program", PROGRAM)
+        self.assertEqual((status, text.startswith(f"rendapil try: {name} was written by a try or by explain")), (1, True), text)
 
     def test_pool(self) -> None:
         """Without statics hosts get aliases as they speak, what is said to them finds them, and a pool that is too small ends."""

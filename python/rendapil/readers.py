@@ -16,6 +16,9 @@ SECTION, INTERFACE, OLD_PACKET, SIMPLE_PACKET, PACKET = 0x0A0D0D0A, 1, 2, 3, 6
 PCAPNG, PACKED = b"\x0a\x0d\x0d\x0a", b"\x1f\x8b"
 """The first bytes of a pcapng file, and of one that is packed by gzip."""
 
+BY_EXPLAIN = b"rendapil explain"
+"""The program that the head of a capture names which `explain` wrote."""
+
 MOST = 1 << 24
 """The most bytes of a block: those of a packed file may be a million times as many as the file has."""
 

@@ -7,6 +7,7 @@ from rendapil.files import Record
 from rendapil.frames import Event, Verdict, compared, may_speak, spoken, ways
 from rendapil.numbers import SIDES
 from rendapil.payloads.scan import Scan
+from rendapil.readers import BY_EXPLAIN
 
 INTERFACES = [f"{side}-{way}" for side in SIDES for way in ("in", "out")]
 FRAME, OPTION, END = struct.Struct("<7I"), struct.Struct("<HH"), struct.Struct("<II")
@@ -32,7 +33,7 @@ class Commented:
     def __init__(self, file: IO[bytes], links: list[int], verdicts: dict[str, Verdict], scan: Scan | None = None) -> None:
         self._verdicts, self._scan = verdicts, scan
         self._file = file
-        self._file.write(block(0x0A0D0D0A, struct.pack("<IHHq", 0x1A2B3C4D, 1, 0, -1), (PROGRAM, b"rendapil explain")))
+        self._file.write(block(0x0A0D0D0A, struct.pack("<IHHq", 0x1A2B3C4D, 1, 0, -1), (PROGRAM, BY_EXPLAIN)))
         for name, link in zip(INTERFACES, links):
             self._file.write(block(1, struct.pack("<HHI", link, 0, 0), (NAME, name.encode()), (UNIT, b"\x09")))
 

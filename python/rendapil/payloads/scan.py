@@ -541,7 +541,9 @@ def refused_row(protocol: int, count: int) -> Told:
 
 def summary_of(scan: Scan, rows: list[Told]) -> str:
     """How much was looked at, and of how many applications nothing is told."""
-    looked = f"{plural(scan.scanned, 'payload')} of {plural(len(scan.apps), 'application')} were looked at"
+    if not scan.scanned:
+        return "No payload was looked at" + ("" if rows else ", so nothing is told of applications")
+    looked = f"{plural(scan.scanned, 'payload')} of {plural(len(scan.apps), 'application')} {'was' if scan.scanned == 1 else 'were'} looked at"
     if not rows:
         return f"{looked}, and none was found"
     return f"{looked}. Nothing is told of {len(scan.apps) - len(rows):,} of them" if len(scan.apps) > len(rows) else looked

@@ -21,7 +21,7 @@ from rendapil.kinds import PACKED
 from rendapil.other_python import debian_has, has
 from rendapil.places import TOP
 from rendapil.public import public_blocks
-from rendapil.readers import NoCapture
+from rendapil.readers import BY_EXPLAIN, PCAPNG, NoCapture
 from rendapil.sayings import Fault, called, quoted
 from rendapil.trying.listing import tell_pairs
 from rendapil.trying.reading import records
@@ -35,7 +35,7 @@ NAMES = ("settings.toml", "left.pcap", "right.pcap", "left-out.pcap", "right-out
 
 def parsed() -> argparse.Namespace:
     """The words of the command."""
-    end = "The status is 0, or 1 where the capture can't be read or no frame crosses, or 2 where the words are wrong, or that of the run."
+    end = "The status is 0, or 1 where the capture can't be read or no frame passes, or 2 where the words are wrong, or that of the run."
     parser = argparse.ArgumentParser(prog="rendapil try", description=__doc__, epilog=end)
     parser.add_argument("capture", metavar="CAPTURE", help="a capture as pcap or pcapng, packed by gzip or not, of any interface")
     parser.add_argument("--left", metavar="BLOCK", nargs="+", type=block_of, default=[], help="addresses of the left realm, as 10.1.0.0/16")
@@ -144,7 +144,7 @@ def try_it(words: argparse.Namespace, capture: str) -> int:
     with tempfile.NamedTemporaryFile("w", prefix="rendapil-", encoding="utf-8") as notes:
         json.dump(notes_of(realms, verdicts, lost, shlex.join([called(), "try", *sys.argv[1:]])), notes)
         notes.flush()
-        return shown_by_explain(words, files, run, notes.name)
+        return shown_by_explain(words, files, run, notes.name) or int(not verdicts["pass"])
 
 
 def shown_by_explain(words: argparse.Namespace, files: dict[str, str], run: list[str], notes: str) -> int:
@@ -158,12 +158,16 @@ def shown_by_explain(words: argparse.Namespace, files: dict[str, str], run: list
     return status
 
 
-def refuse_packed(capture: str, name: str) -> None:
-    """Ends where a capture is packed in a way that has to be undone first."""
+def refuse_unfit(capture: str, name: str) -> None:
+    """Ends where a capture is packed in a way that has to be undone first, or is one that `explain` wrote."""
     with open(capture, "rb") as file:
-        head = file.read(4)
+        head = file.read(256)
+    if head.startswith(PCAPNG) and BY_EXPLAIN in head:
+        raise Fault(
+            f"{shown(name)} was written by a try or by explain, and has each frame as it came and as it went: give the capture that it was made of"
+        )
     for begin, (what, command) in PACKED.items():
-        if head == begin and what != "gzip":
+        if head.startswith(begin) and what != "gzip":
             raise Fault(f"{shown(name)} is packed by {what}. Unpack it: {command} {quoted(name)} | {called()} try -")
 
 
@@ -173,7 +177,7 @@ def try_or_list(words: argparse.Namespace) -> int:
         raise Fault("this needs scapy: apt-get install python3-scapy")
     try:
         with readable_twice(words.capture) as capture:
-            refuse_packed(capture, words.capture)
+            refuse_unfit(capture, words.capture)
             if words.left:
                 return try_it(words, capture)
             tell_pairs(capture, words.capture, called(), words.program, not words.public)

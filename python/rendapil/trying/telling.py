@@ -33,7 +33,8 @@ def tell_realms(realms: TwoRealms, counts: list[int], folder: str) -> None:
     if same := realms.public_seen():
         mean = "public address means" if same == 1 else "public addresses mean"
         print(f"{same} {mean} the same in both realms. --public gives them aliases too.")
-    print()
+    if realms.left_out or realms.filled or realms.mended or realms.lines:
+        print()
     for what, count in sorted(realms.left_out.items()):
         print(f"{count:8}  {'frame' if count == 1 else 'frames'} left out: {what}")
     for count, what in (
@@ -96,11 +97,18 @@ def tell_verdicts(verdicts: Counter[str], lost: int) -> None:
             continue
         said = f"{means[name].means}. What to do: {means[name].todo}" if name in means else ""
         print(f"{count:8}  {name}{': ' + said if said else ''}")
+    if total and not passed:
+        print("\nNo frame passes: nothing in this capture works through the gateway.")
 
 
 def limits(verdicts: Counter[str], realms: TwoRealms) -> list[str]:
     """Where an open loop bites, and what helps."""
     found = []
+    if realms.filled:
+        found.append(
+            f"{counted(realms.filled, 'frame')} {'was' if realms.filled == 1 else 'were'} cut by the capture, so nobody can tell which addresses stood in what is "
+            "missing. Capture whole frames, by tcpdump -s 0."
+        )
     stuck, late = verdicts["Gap"] + verdicts["AckAhead"], verdicts["NoSession"]
     if 10 * stuck > verdicts.total():
         why = (
