@@ -113,16 +113,16 @@ class Readable(Protocol):
 def pcap_records(file: Readable, form: tuple[str, int], link: int, fractions: int = 1 << 32) -> Iterator[Record]:
     """The records of a pcap file behind its head, by the form of FORMS. A stamp whose fraction is so many units is none."""
     order, unit = form
-    heads, read, make = struct.Struct(order + "4I"), file.read, Record._make
+    heads, read, make = struct.Struct(order + "4I").unpack, file.read, tuple.__new__
     while len(head := read(16)) == 16:
-        seconds, fraction, size, length = heads.unpack(head)
+        seconds, fraction, size, length = heads(head)
         if size > RECORD:
             raise TooLong(size)
         if len(octets := read(size)) < size:
             raise Damaged("it ends within a record")
         if fraction >= fractions:
             raise NoStamp("a record has a stamp that is none")
-        yield make((seconds * 1_000_000_000 + fraction * unit, link, octets, length, "", UNKNOWN))
+        yield make(Record, (seconds * 1_000_000_000 + fraction * unit, link, octets, length, "", UNKNOWN))
     if head:
         raise Damaged("it ends within the head of a record")
 

@@ -9,11 +9,12 @@ from array import array
 from collections import Counter
 from collections.abc import Callable, Iterable, Iterator
 from dataclasses import dataclass, field
+from typing import NamedTuple
 
-from rendapil.any_capture import datagram_in, with_length
+from rendapil.any_capture import PLAIN, datagram_in, with_length
 from rendapil.bindings import Blocks, pool_of
 from rendapil.document import Document
-from rendapil.files import ETHERNET, IN, LOCAL, OUT, UNKNOWN, Damaged, Record, bare_head, record_head, shown
+from rendapil.files import ETHERNET, IN, LOCAL, OUT, RAW_IP, UNKNOWN, Damaged, Record, bare_head, record_head, shown
 from rendapil.numbers import SECOND, SIDES, TCP, UDP
 from rendapil.packet import ICMP, Packet, header_sum
 from rendapil.progress import Progress
@@ -22,8 +23,12 @@ from rendapil.readers import records, whole_records
 ENDS = struct.Struct(">II")
 """The addresses of a datagram."""
 
-LOOKED_AT, JOIN_ROOM = 100_000, 1024
-"""The most frames by which the device's MAC addresses are found, and the most datagrams that are joined at once."""
+LOOKED_AT, JOIN_ROOM, KNOWN = 100_000, 1024, 100_000
+"""The most frames by which the device's MAC addresses are found, the most datagrams that are joined at once, and the most pairs of addresses that are
+known at once."""
+
+WITHOUT_OPTIONS = PLAIN[2:]
+"""How most datagrams begin."""
 
 
 # Which way a frame goes.
@@ -43,17 +48,17 @@ class Realm:
         """Whether an address is an alias of the other realm's hosts here."""
         return self.first <= int.from_bytes(octets) <= self.last
 
-    def way(self, record: Record, datagram: bytes) -> int:
-        """The way of a frame: by the capture, by the device's MAC addresses, or by the addresses of the datagram."""
-        if record.way != UNKNOWN:
-            return record.way
-        if record.link == ETHERNET and self.macs:
-            return OUT if record.octets[6:12] in self.macs else IN if record.octets[:6] in self.macs else LOCAL
-        return self.way_by_addresses(datagram)
+    def way(self, record: Record, by_addresses: int) -> int:
+        """The way of a frame: by the capture, by the device's MAC addresses, or by the addresses of its datagram."""
+        _, link, octets, _, _, way = record
+        if way != UNKNOWN:
+            return way
+        if link == ETHERNET and self.macs:
+            return OUT if octets[6:12] in self.macs else IN if octets[:6] in self.macs else LOCAL
+        return by_addresses
 
-    def way_by_addresses(self, datagram: bytes) -> int:
-        """The same by the addresses alone."""
-        source, destination = datagram[12:16], datagram[16:20]
+    def way_by_addresses(self, source: bytes, destination: bytes) -> int:
+        """The way of datagrams by their addresses alone."""
         if self.is_far(destination):
             return IN
         if self.is_far(source):
@@ -76,19 +81,23 @@ class Realm:
 # Bare datagrams.
 
 
-def frames_of(path: str) -> Iterator[Record]:
-    """The frames of a capture. What is wrong behind the last one is told."""
+def frames_of(path: str) -> Iterator[tuple[int, Record]]:
+    """The frames of a capture by their numbers. What is wrong behind the last one is told."""
     number = 0
     try:
         for number, record in enumerate(whole_records(path), 1):
-            yield record
+            yield number, record
     except Damaged as error:
         print(f"rendapil compare: {shown(path)} is damaged behind frame {number}: {error}", file=sys.stderr)
 
 
-def bare(record: Record) -> tuple[bytes, str]:
+def bare(link: int, octets: bytes) -> tuple[bytes, str]:
     """The datagram of a frame without what its link put behind it, and why it can't be compared, if it can't."""
-    datagram = with_length(datagram_in(record.link, record.octets))
+    at = 14 if link == ETHERNET else 0
+    is_plain = octets[12:15] == PLAIN if link == ETHERNET else link == RAW_IP and octets[:1] == WITHOUT_OPTIONS
+    if is_plain and len(octets) >= at + 20 and 20 <= (total := octets[at + 2] << 8 | octets[at + 3]) <= len(octets) - at:
+        return octets[at : at + total], ""
+    datagram = with_length(datagram_in(link, octets))
     if not datagram:
         return b"", "no IPv4 (ARP, IPv6)"
     total = datagram[2] << 8 | datagram[3]
@@ -99,15 +108,27 @@ def bare(record: Record) -> tuple[bytes, str]:
     return datagram[:total], ""
 
 
-def is_left_to_card(datagram: bytes) -> bool:
-    """Whether a network card fills in the checksum: what stands there is that of the pseudo header, as offloading leaves it."""
+def is_left_to_card(datagram: bytes, total: int) -> bool:
+    """Whether a network card fills in the checksum: what stands there is that of the pseudo header, as offloading leaves it. `total` is the sum of the
+    addresses."""
     protocol, head = datagram[9], (datagram[0] & 15) * 4
     at = head + (16 if protocol == TCP else 6)
+    if datagram[10:12] == b"\0\0":
+        return True
     if protocol not in (TCP, UDP) or len(datagram) < at + 2 or datagram[6] & 0x3F or datagram[7]:
-        return datagram[10:12] == b"\0\0"
-    source, destination = ENDS.unpack_from(datagram, 12)
-    rest = (datagram[at] << 8) + datagram[at + 1] - source - destination - protocol
-    return not rest % 0xFFFF or not (rest - len(datagram) + head) % 0xFFFF or datagram[10:12] == b"\0\0"
+        return False
+    rest = (datagram[at] << 8 | datagram[at + 1]) - total - protocol
+    return not rest % 0xFFFF or not (rest - len(datagram) + head) % 0xFFFF
+
+
+class Ends(NamedTuple):
+    """What holds for all datagrams of a link between the same addresses: whether one of these is an alias of the link, or one of the other link's alone,
+    the way by them, and their sum."""
+
+    is_own: bool
+    is_other: bool
+    way: int
+    total: int
 
 
 class Joiner:
@@ -137,8 +158,8 @@ class Joiner:
         return bytes(first) + whole
 
 
-NANOSECONDS, CHUNK = b"\x4d\x3c\xb2\xa1", 1 << 22
-"""The first bytes of a capture of bare datagrams, and how much of it is read at once."""
+NANOSECONDS, BUFFER = b"\x4d\x3c\xb2\xa1", 1 << 18
+"""The first bytes of a capture of bare datagrams, and the room for what is read and written of it."""
 
 
 @dataclass
@@ -152,12 +173,14 @@ class Bare:
     last: int = 0
 
     def __post_init__(self) -> None:
-        self._file = open(self.path, "wb", 1 << 18)
-        self._file.write(bare_head())
+        self._file = open(self.path, "wb", BUFFER)
+        self._write = self._file.write
+        self._write(bare_head())
 
     def put(self, moment: int, number: int, datagram: bytes) -> None:
         """Writes a datagram."""
-        self._file.write(record_head(moment, len(datagram), len(datagram)) + datagram)
+        size = len(datagram)
+        self._write(record_head(moment, size, size) + datagram)
         self.numbers.append(number)
         if moment > self.last:
             self.last = moment
@@ -184,48 +207,56 @@ class Links:
 
     def read_way(self, side: int, way: int, path: str) -> None:
         """Takes a file in which all frames go one way."""
-        self._take(side, path, frames_of(path), way)
+        self._take(side, path, way)
 
     def read_both(self, side: int, path: str, interface: str = "") -> None:
         """Takes a file, or an interface of it, in which frames go both ways."""
         realm = self.realms[side]
         if not realm.macs:
             realm.find_macs(one for one in records(path) if not interface or one.interface == interface)
-        self._take(side, path, frames_of(path), UNKNOWN, interface)
+        self._take(side, path, UNKNOWN, interface)
 
-    def _take(self, side: int, path: str, frames: Iterable[Record], only: int, interface: str = "") -> None:
+    def _take(self, side: int, path: str, only: int, interface: str = "") -> None:
         """Takes the frames of a file: of one way, or of both with `only` unknown."""
         realm, joiner = self.realms[side], Joiner()
         files = self.came[side], self.went[side]
         for file, way in zip(files, (IN, OUT)):
             file.name = path if only in (UNKNOWN, way) else file.name
         told = Progress("compare", f"frames of {os.path.basename(path)} are read")
-        whose: dict[bytes, tuple[bool, bool]] = {}
-        for number, record in enumerate(frames, 1):
+        known: dict[bytes, Ends] = {}
+        for number, record in frames_of(path):
             told.tell(number)
-            if interface and record.interface != interface:
+            moment, link, octets, _, of, _ = record
+            if interface and of != interface:
                 continue
-            datagram, why = bare(record)
+            datagram, why = bare(link, octets)
             if why:
                 self.left_out[f"{why}, on the {SIDES[side]}"] += 1
                 continue
+            ends = known.get(datagram[12:20]) or self._ends(side, datagram[12:20], known)
             if number <= LOOKED_AT:
-                if (ends := datagram[12:20]) not in whose:
-                    own, other = (any(map(one.is_far, (ends[:4], ends[4:]))) for one in (realm, self.realms[1 - side]))
-                    whose[ends] = own, other and not own
-                self.of_own[side] += whose[ends][0]
-                self.of_other[side] += whose[ends][1]
-            way = only if only != UNKNOWN else realm.way(record, datagram)
+                self.of_own[side] += ends[0]
+                self.of_other[side] += ends[1]
+            way = only if only != UNKNOWN else realm.way(record, ends[2])
             if way == LOCAL:
                 self.left_out[f"neither to nor from the device, on the {SIDES[side]}"] += 1
                 continue
-            if is_left_to_card(datagram):
+            if is_left_to_card(datagram, ends[3]):
                 packet = Packet(datagram)
                 self.mended[f"{SIDES[side]} {'out' if way else 'in'}"] += packet.mend()
                 datagram = bytes(packet.octets)
             if way == OUT and (datagram[6] & 0x3F or datagram[7]) and not (datagram := joiner.take(datagram)):
                 continue
-            files[way].put(record.moment, number, datagram)
+            files[way].put(moment, number, datagram)
+
+    def _ends(self, side: int, ends: bytes, known: dict[bytes, Ends]) -> Ends:
+        """What holds between these addresses. It is kept while there is room."""
+        source, destination, realm = ends[:4], ends[4:], self.realms[side]
+        own, other = (any(map(one.is_far, (source, destination))) for one in (realm, self.realms[1 - side]))
+        found = Ends(own, other and not own, realm.way_by_addresses(source, destination), sum(ENDS.unpack(ends)) % 0xFFFF)
+        if len(known) < KNOWN:
+            known[ends] = found
+        return found
 
     def are_swapped(self) -> bool:
         """Whether each capture has the aliases of the other link, and neither those of its own."""
@@ -268,20 +299,16 @@ class Links:
 
 def frames(path: str) -> Iterator[tuple[int, bytes]]:
     """Stamps and datagrams of a capture of bare datagrams with nanoseconds, as this tool and the reference write them."""
-    heads, rest = struct.Struct("<3I"), b""
-    with open(path, "rb") as file:
+    heads = struct.Struct("<3I4x").unpack
+    with open(path, "rb", BUFFER) as file:
         if file.read(24)[:4] != NANOSECONDS:
             raise ValueError(f"{path} isn't a capture that the reference writes")
-        while chunk := file.read(CHUNK):
-            octets, at = rest + chunk, 0
-            end = len(octets)
-            while at + 16 <= end:
-                seconds, fraction, size = heads.unpack_from(octets, at)
-                if at + 16 + size > end:
-                    break
-                yield seconds * SECOND + fraction, octets[at + 16 : at + 16 + size]
-                at += 16 + size
-            rest = octets[at:]
+        read = file.read
+        while len(head := read(16)) == 16:
+            seconds, fraction, size = heads(head)
+            if len(datagram := read(size)) < size:
+                return
+            yield seconds * SECOND + fraction, datagram
 
 
 def cut_out(file: Bare, folder: str, begin: int, end: int) -> Bare:

@@ -286,7 +286,7 @@ class Judge:
             if room > 0:
                 found[key][place].append(segment)
 
-        for came, dues in reference.events():
+        for came, images in reference.events():
             datagram = came.datagram
             if len(datagram) < 40 or not is_segment(datagram):
                 continue
@@ -294,8 +294,8 @@ class Judge:
             if key not in found:
                 continue
             put(key, came.side, segment_of(came.moment, came.number, datagram, came.verdict))
-            for due in dues:
-                put(key, 2 + came.side, segment_of(came.moment, came.number, due.datagram, came.verdict))
+            for image in images:
+                put(key, 2 + came.side, segment_of(came.moment, came.number, image, came.verdict))
         for sent in sent_by(links) if links else ():
             datagram = sent.datagram
             if is_segment(datagram) and (key := self.connection(sent.side, OUT, datagram)) in found:

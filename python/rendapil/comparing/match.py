@@ -1,13 +1,13 @@
 """What a real device sent and what the reference sends, frame by frame. What is equal is dropped at once, so that the room doesn't grow with the captures.
 Equal means: in all but the identification, the TTL and the checksum of the IPv4 header, within a time."""
 import struct
-from collections import Counter
+from collections import Counter, deque
 from collections.abc import Callable, Iterator
 from dataclasses import dataclass, field
 from itertools import islice
 from typing import NamedTuple, TypeVar
 
-from rendapil.comparing.captures import Joiner, Links, frames
+from rendapil.comparing.captures import BUFFER, Joiner, Links, frames
 from rendapil.numbers import TCP
 from rendapil.packet import Packet
 from rendapil.progress import Progress
@@ -55,35 +55,50 @@ class Reference:
     went: tuple[str, str]
     report: str
 
-    def events(self) -> Iterator[tuple[Came, list[Due]]]:
-        """Each frame that came, and what the reference sends for it."""
+    def events(self) -> Iterator[tuple[Came, list[bytes]]]:
+        """Each frame that came, and the datagrams that the reference sends for it."""
         came, went = [frames(path) for path in self.came], [frames(path) for path in self.went]
         joiners = Joiner(), Joiner()
-        with open(self.report, "rb", 1 << 18) as file:
-            for line in file:
+        make, ended = tuple.__new__, dict[bytes, tuple[str, int]]()  # how lines end: few ends come again and again
+        with open(self.report, "rb", BUFFER) as file:
+            for number, line in enumerate(file, 1):
                 if line.startswith(b"done"):
                     return
-                number, name, stamp, word, size = line.split()
-                side, moment, verdict, count = int(name == b"right"), int(stamp), word.decode(), int(size)
+                _, name, stamp, end = line.split(b" ", 3)
+                if end not in ended:
+                    word, size = end.split()
+                    ended[end] = word.decode(), int(size)
+                verdict, count = ended[end]
+                side = 1 if name == b"right" else 0
                 datagram = next(came[side])[1]
                 if datagram[6:7] and (datagram[6] & 0x3F or datagram[7]):
                     datagram = joiners[side].take(datagram) or datagram
-                one = Came(int(number), side, moment, verdict, datagram)
-                yield one, [Due(one, datagram) for _, datagram in islice(went[1 - side], count)] if count else []
+                one = make(Came, (number, side, int(stamp), verdict, datagram))
+                sent = went[1 - side]
+                yield one, [next(sent)[1]] if count == 1 else [datagram for _, datagram in islice(sent, count)]
+
+
+def sent_to(side: int, path: str) -> Iterator[Sent]:
+    """All that the device sent to a side."""
+    make = tuple.__new__
+    for place, (moment, datagram) in enumerate(frames(path)):
+        yield make(Sent, (side, moment, place, datagram, False))
 
 
 def sent_by(links: Links) -> Iterator[Sent]:
     """All that the device sent, by its stamps."""
-    files = [enumerate(frames(file.path)) for file in links.went]
+    files = [sent_to(side, file.path) for side, file in enumerate(links.went)]
     left, right = (next(file, None) for file in files)
-    while head := right if not left or right and right[1][0] < left[1][0] else left:
-        place, (moment, datagram) = head
-        if head is right:
-            yield Sent(1, moment, place, datagram)
+    while left and right:
+        if right[1] < left[1]:
+            yield right
             right = next(files[1], None)
         else:
-            yield Sent(0, moment, place, datagram)
+            yield left
             left = next(files[0], None)
+    if one := left or right:
+        yield one
+        yield from files[one.side]
 
 
 def likeness(datagram: bytes) -> bytes:
@@ -113,29 +128,30 @@ class Match:
     verdicts: Counter[str] = field(default_factory=Counter)
 
     def __post_init__(self) -> None:
+        # By side: what the reference sends and nothing was looked for yet, in its order; what else waits, by its likeness; and what was equal of late.
+        self._ahead: tuple[deque[tuple[Came, bytes]], ...] = deque(), deque()
         self._due: tuple[dict[bytes, list[Due]], ...] = {}, {}
         self._sent: tuple[dict[bytes, list[Sent]], ...] = {}, {}
-        self._new: set[tuple[int, int]] = set()
-        self._old: set[tuple[int, int]] = set()
+        self._new: list[set[int]] = [set(), set()]
+        self._old: list[set[int]] = [set(), set()]
         self._turned = 0
 
     def read(self, reference: Reference, links: Links) -> None:
         """Reads both."""
         outgoing = sent_by(links)
         waiting = next(outgoing, None)
-        moment = 0
-        told = Progress("compare", "frames are compared")
-        for came, dues in reference.events():
-            moment = came.moment
-            told.tell(came.number)
-            while waiting and waiting.moment < moment:
+        told, verdicts = Progress("compare", "frames are compared"), self.verdicts
+        for came, images in reference.events():
+            number, _, moment, verdict, _ = came
+            told.tell(number)
+            while waiting and waiting[1] < moment:
                 self._take_sent(waiting)
                 waiting = next(outgoing, None)
-            self.verdicts[came.verdict] += 1
-            if not dues and came.verdict not in ("pass", "held") and len(self.refused) < KEPT:
+            verdicts[verdict] += 1
+            if not images and verdict not in ("pass", "held") and len(self.refused) < KEPT:
                 self.refused.append(came)
-            for due in dues:
-                self._take_due(due)
+            for datagram in images:
+                self._take_due(came, datagram)
             if moment > self._turned + self.window:
                 self._turn(moment)
         while waiting:
@@ -144,37 +160,55 @@ class Match:
         self._turn(1 << 63)
         self._turn(1 << 63)
 
-    def _take_due(self, due: Due) -> None:
+    def _take_due(self, came: Came, datagram: bytes) -> None:
         """Takes a frame of the reference."""
-        side, key = 1 - due.came.side, likeness(due.datagram)
+        side = 1 - came[1]
         self.counts["reference"] += 1
-        if waiting := self._sent[side].get(key):
+        if (left := self._sent[side]) and (waiting := left.get(key := likeness(datagram))):
             sent = waiting.pop(0)
             if not waiting:
-                del self._sent[side][key]
-            self._equal(due, sent, key)
+                del left[key]
+            self._equal(Due(came, datagram), sent, key)
         else:
-            self._due[side].setdefault(key, []).append(due)
+            self._ahead[side].append((came, datagram))
 
     def _take_sent(self, sent: Sent) -> None:
-        """Takes a frame of the device."""
-        side, key = sent.side, likeness(sent.datagram)
+        """Takes a frame of the device. Most are the next one of the reference, with the header that it has there, whose checksum is right. Among frames that
+        are alike the one that waits longest is meant."""
+        side, moment, _, datagram, _ = sent
+        ahead, filed, key = self._ahead[side], self._due[side], likeness(datagram)
         self.counts["device"] += 1
-        if waiting := self._due[side].get(key):
+        if ahead and ahead[0][1] == datagram and key not in filed:
+            came, _ = ahead.popleft()
+            self._note_equal(side, key, moment - came[2])
+            return
+        self._file(side)
+        if waiting := filed.get(key):
             due = waiting.pop(0)
             if not waiting:
-                del self._due[side][key]
+                del filed[key]
             self._equal(due, sent, key)
         else:
-            mark = side, hash(key)
-            self._sent[side].setdefault(key, []).append(sent._replace(again=mark in self._new or mark in self._old))
+            mark = hash(key)
+            self._sent[side].setdefault(key, []).append(sent._replace(again=mark in self._new[side] or mark in self._old[side]))
+
+    def _file(self, side: int) -> None:
+        """Lets what the reference sends wait by its likeness, where it isn't the next frame of the device."""
+        ahead, filed = self._ahead[side], self._due[side]
+        while ahead:
+            came, datagram = ahead.popleft()
+            filed.setdefault(likeness(datagram), []).append(Due(came, datagram))
+
+    def _note_equal(self, side: int, key: bytes, delay: int) -> None:
+        """Notes that two frames are equal."""
+        self.counts["equal"] += 1
+        self._new[side].add(hash(key))
+        if len(self.delays) < DELAYS:
+            self.delays.append(delay)
 
     def _equal(self, due: Due, sent: Sent, key: bytes) -> None:
         """Notes two frames that are equal, and looks at what may still differ."""
-        self.counts["equal"] += 1
-        self._new.add((sent.side, hash(key)))
-        if len(self.delays) < DELAYS:
-            self.delays.append(sent.moment - due.came.moment)
+        self._note_equal(sent.side, key, sent.moment - due.came.moment)
         one, other = due.datagram, sent.datagram
         if one[8] != other[8]:
             self.ttl.append((due, sent))
@@ -184,9 +218,10 @@ class Match:
     def _turn(self, moment: int) -> None:
         """Drops what has waited too long."""
         self._turned = moment
-        self._old, self._new = self._new, set()
+        self._old, self._new = self._new, [set(), set()]
         end = moment - self.window
         for side in (0, 1):
+            self._file(side)
             self._give_up(self._due[side], self.due, lambda due: due.came.moment < end)
             self._give_up(self._sent[side], self.sent, lambda sent: sent.moment < end)
 
