@@ -320,6 +320,7 @@ class Missing(Compared):
         with contextlib.redirect_stderr(io.StringIO()) as errors:
             self.assertEqual(self.compared()[0], 1)
         self.assertIn("no frame goes to the device on the right", errors.getvalue())
+        self.assertIn("no frame comes from the device", errors.getvalue())
 
     def test_lossy(self) -> None:
         """Nothing shows whether a capture or the device lost a datagram of UDP."""

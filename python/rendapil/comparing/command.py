@@ -105,6 +105,11 @@ def read_links(words: argparse.Namespace, settings: Document, room: str) -> Link
         )
     if len(idle) == 2:
         raise Fault("no frame goes to the device: there is nothing to compare")
+    if not any(file.numbers for file in links.went):
+        print(
+            "rendapil compare: no frame comes from the device. Are these captures of what came to it alone? Give those of what it sent too.",
+            file=sys.stderr,
+        )
     return links
 
 
