@@ -158,7 +158,7 @@ WORST_OWN: Parameters = {
     "seed": 0,
 }
 WORST_TCP: Parameters = SIMPLE | {"tail": 70, "pre": 10, "post": 0, "width": 1, "crowd": 254, "order": "up", "pick": 28, "led": 30, "seed": 713}
-WORST_SEVEN: Parameters = {"tail": 113, "pre": 4, "width": 2, "led": 0, "crowd": 558, "pick": "last", "seed": 705}
+WORST_SEVEN: Parameters = {"tail": 89, "pre": 0, "width": 8, "led": 0, "crowd": 558, "pick": 386, "seed": 705}
 """The worst that climbs found over UDP, without and with labels before the pointers, and over TCP. Seven messages in a segment, which pass, differ so
 from the one over TCP."""
 
