@@ -24,6 +24,7 @@ JSON = re.compile(
 )
 DONE = re.compile(rb'(?:done( [a-z_]+=\d{1,19})+|\{"done":true(,"[a-z_]+":\d{1,19})+\})\n')
 SIDES = {b"left": 0, b"right": 1}
+NO_WORDS = [b""] * 4
 
 
 PLAIN = 300
@@ -183,17 +184,17 @@ def line_of(text: bytes) -> Line | None:
 
 def lines(file: BinaryIO, path: str) -> Iterator[Line | str]:
     """The lines of a report, and its last one as text if it is there. A line that was cut at the end isn't told."""
-    place = 0
+    place, make = 0, tuple.__new__
     verdicts: set[str] = set()
     ends: dict[bytes, tuple[str, int]] = {}  # verdicts with numbers of frames, as they stood in lines before
     while text := file.readline(LINE):
         place += 1
-        number, _, rest = text.partition(b" ")
-        side, _, rest = rest.partition(b" ")
-        moment, _, end = rest.partition(b" ")
+        words = text.split(b" ", 3)
+        number, side, moment, end = words if len(words) == 4 else NO_WORDS
         # Most lines end as one before: these are taken without being parsed anew.
         if end in ends and number == b"%d" % place and side in SIDES and moment.isdigit() and len(moment) < 20 and int(moment) < MOMENTS:
-            yield Line._make((place, SIDES[side], int(moment), *ends[end]))
+            verdict, frames = ends[end]
+            yield make(Line, (place, SIDES[side], int(moment), verdict, frames))
             continue
         line = line_of(text)
         if line and line.number == place and (line.verdict in verdicts or len(verdicts) < VERDICTS):

@@ -25,12 +25,16 @@ VOTES, STATICS, FEW = 20, 12_000, 3
 alias are a fault of a binding, and not of these frames."""
 
 
+FLAGS = [bytes([flags]) for flags in range(8)]
+"""The flags FIN, SYN and RST as octets."""
+
+
 def identity(datagram: bytes, has_ports: bool = True) -> bytes:
     """What a gateway leaves as it is in most frames, without addresses. Nothing where too little is left to tell frames apart."""
     head, protocol = (datagram[0] & 15) * 4, datagram[9]
     if protocol == TCP and len(datagram) >= head + 20:
         offset, flags = (datagram[head + 12] >> 4) * 4, datagram[head + 13] & 7
-        return b"t%b%c%b" % (datagram[head + (0 if has_ports else 4) : head + 8], flags, datagram[head + offset :])
+        return b"t" + datagram[head + (0 if has_ports else 4) : head + 8] + FLAGS[flags] + datagram[head + offset :]
     if protocol == UDP and len(datagram) >= head + 8:
         return b"u" + (datagram[head : head + 4] if has_ports else b"") + datagram[head + 8 :] + (b"" if len(datagram) > head + 12 else datagram[4:6])
     if protocol == ICMP and len(datagram) >= head + 8:
@@ -83,8 +87,12 @@ def passages(came: Bare, went: Bare, side: int) -> list[tuple[int, int]]:
         key = identity(datagram)
         if not crc32(key) % share:
             seen[key] = None if key in seen else moment
+    # Most segments are told apart by their ports and sequence number, which their identity begins with.
+    fronts = {key[1:9] for key in seen if key[:1] == b"t"}
     found: dict[bytes, tuple[int, int] | None] = {}
     for moment, datagram in frames(went.path):
+        if datagram[0] == 0x45 and datagram[9] == TCP and len(datagram) >= 40 and datagram[20:28] not in fronts:
+            continue
         key = identity(datagram)
         if (came_at := seen.get(key)) is not None:
             found[key] = None if key in found else (came_at if side else moment, moment - came_at)

@@ -27,6 +27,16 @@ def block(kind: int, body: bytes, *options: tuple[int, bytes]) -> bytes:
     return struct.pack("<II", kind, size) + body + struct.pack("<HHI", 0, 0, size)
 
 
+def block_of(interface: int, moment: int, frame: Record, comment: str) -> tuple[bytes, ...]:
+    """The block of a frame in its parts."""
+    _, _, octets, length, _, _ = frame
+    text, kept = comment.encode(), len(octets)
+    said = len(text)
+    size = kept + -kept % 4 + said + -said % 4 + 40
+    head = FRAME.pack(6, size, interface, moment >> 32, moment & 0xFFFFFFFF, kept, length if length > kept else kept)
+    return head, octets, PADDING[kept & 3], OPTION.pack(COMMENT, said), text, PADDING[said & 3], END.pack(0, size)
+
+
 class Commented:
     """Writes a capture in the format pcapng with the frames of a run. `links` are those of left-in, left-out, right-in and right-out."""
 
@@ -37,30 +47,23 @@ class Commented:
         for name, link in zip(INTERFACES, links):
             self._file.write(block(1, struct.pack("<HHI", link, 0, 0), (NAME, name.encode()), (UNIT, b"\x09")))
 
-    def _put(self, interface: int, moment: int, frame: Record, comment: str) -> None:
-        """Writes a frame."""
-        octets, text, kept = frame.octets, comment.encode(), len(frame.octets)
-        size = kept + -kept % 4 + len(text) + -len(text) % 4 + 40
-        head = FRAME.pack(6, size, interface, moment >> 32, moment & 0xFFFFFFFF, kept, max(frame.length, kept))
-        said = OPTION.pack(COMMENT, len(text)) + text + PADDING[len(text) & 3] + END.pack(0, size)
-        self._file.write(b"".join((head, octets, PADDING[kept & 3], said)))
-
     def take(self, event: Event) -> None:
         """Writes an event: its frame, and those that were sent for it."""
         if event.is_heartbeat:
             return
-        side = event.side
-        self._put(2 * side, event.moment, event.frame, self._said(event))
-        if not event.sent:
-            return
-        came = f": it came as {ways(event.datagram)}" if event.datagram else ""
-        many = len(event.sent)
-        for number, frame in enumerate(event.sent, 1):
-            of = f" ({number} of {many})" if many > 1 else ""
-            self._put(3 - 2 * side, event.moment, frame, f"event {event.number} {SIDES[side]}, sent{of}{came}")
+        side, moment, sent = event.side, event.moment, event.sent
+        ends = ways(event.datagram) if sent else ""
+        parts = block_of(2 * side, moment, event.frame, self._said(event, ends))
+        if sent:
+            many = len(sent)
+            for number, frame in enumerate(sent, 1):
+                of = f" ({number} of {many})" if many > 1 else ""
+                comment = f"event {event.number} {SIDES[side]}, sent{of}: it came as {ends}"
+                parts += block_of(3 - 2 * side, moment, frame, comment)
+        self._file.write(b"".join(parts))
 
-    def _said(self, event: Event) -> str:
-        """What became of a frame."""
+    def _said(self, event: Event, ends: str) -> str:
+        """What became of a frame. Its ends are in words where frames were sent for it."""
         front = f"event {event.number} {SIDES[event.side]} {event.verdict}: "
         if event.verdict == "held":
             return front + "a fragment that waits for the others of its packet"
@@ -69,9 +72,12 @@ class Commented:
             return front + (f"{known.means}. What to do: {known.todo}." if known else "refused.")
         if not event.images:
             return front + "nothing went out yet"
-        changed = changed_lines(event) if may_speak(event.datagram) or any(map(may_speak, event.images)) else []
-        left = [f"\n! {one.application}: {one.words}" for one in self._scan.latest] if self._scan else []
-        return front + f"{ways(event.datagram)} became {ways(event.images[0])}" + "".join(changed + left)
+        said = f"{front}{ends} became {ways(event.images[0])}"
+        if may_speak(event.datagram) or any(map(may_speak, event.images)):
+            said += "".join(changed_lines(event))
+        if self._scan and self._scan.latest:
+            said += "".join(f"\n! {one.application}: {one.words}" for one in self._scan.latest)
+        return said
 
 
 def changed_lines(event: Event) -> list[str]:

@@ -163,7 +163,7 @@ class Story:
         went = list(islice(sent if count < 16 else limited(sent), count)) if count else []
         if len(went) < count:
             raise ValueError(f"event {number}: {names[3 - side]} has no frame left")
-        images = [datagram_of(octets, link) for _, link, octets, *_ in went]
+        images = [datagram_of(octets, link) for _, link, octets, _, _, _ in went]
         if b"" in images:
             raise ValueError(f"event {number}: {names[3 - side]} has a frame that no gateway sends")
         datagram = datagram_of(frame.octets, frame.link)

@@ -99,6 +99,14 @@ class Left(NamedTuple):
     known_as: int
 
 
+class Aim(NamedTuple):
+    """What is looked for in flows: how addresses begin, some from their last octet, and how many hosts these could mean."""
+
+    prefixes: list[bytes]
+    turned: tuple[bytes, ...]
+    weight: int
+
+
 class Scan:
     """Looks into payloads. `meaning` tells whom an address means. `is_before` says that there is no gateway yet: it will change what it knows."""
 
@@ -112,6 +120,7 @@ class Scan:
         self._opened: dict[bytes, None] = {}
         self._blocks: tuple[dict[bytes, set[bytes]], ...] = ({}, {})
         self._ranked: tuple[list[bytes], ...] = ()  # these blocks by side, those with the most hosts first, as long as no host comes
+        self._aims: dict[tuple[int, tuple[bytes, ...]], Aim] = {}
         self.scanned = 0
 
     def event(self, event: Event) -> None:
@@ -214,15 +223,25 @@ class Scan:
         return self.apps[key]
 
     def _aim(self, flow: Flow, key: bytes, side: int, sent: list[bytes]) -> None:
-        """Chooses what is looked for in a flow: the blocks of its ends, and those in which most hosts of its realm are."""
-        ends = [key[:4], key[4:8], *(image[16:20] for image in sent[:1])]
+        """Chooses what is looked for in a flow: the blocks of its ends, and those in which most hosts of its realm are. That is the same for all flows
+        between these ends, as long as no host comes."""
+        ends = (key[:4], key[4:8], sent[0][16:20]) if sent else (key[:4], key[4:8])
         if not self._ranked:
             self._ranked = tuple(sorted(blocks, key=lambda one: -len(blocks[one])) for blocks in self._blocks)
+            self._aims.clear()
+        if not (aim := self._aims.get((side, ends))):
+            if len(self._aims) >= FLOWS:
+                self._aims.clear()
+            aim = self._aims[side, ends] = self._aim_of(side, ends)
+        flow.prefixes, flow.turned, flow.weight = aim
+
+    def _aim_of(self, side: int, ends: tuple[bytes, ...]) -> Aim:
+        """What is looked for in the flows between these ends."""
         mine, theirs = self._ranked[side], self._ranked[1 - side]
-        flow.prefixes = list(dict.fromkeys([end[:2] for end in ends] + mine[:4] + theirs[:2]))[:PREFIXES]
-        flow.turned = tuple(dict.fromkeys(end[::-1] for end in ends))
+        prefixes = list(dict.fromkeys([end[:2] for end in ends] + mine[:4] + theirs[:2]))[:PREFIXES]
         left, right = self._blocks
-        flow.weight = sum(max(1, len(left.get(prefix, ())), len(right.get(prefix, ()))) for prefix in flow.prefixes)
+        weight = sum(max(1, len(left.get(prefix, ())), len(right.get(prefix, ()))) for prefix in prefixes)
+        return Aim(prefixes, tuple(dict.fromkeys(end[::-1] for end in ends)), weight)
 
     @staticmethod
     def _finds(flow: Flow, payload: bytes) -> list[Find]:
