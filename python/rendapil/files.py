@@ -192,9 +192,8 @@ def lines(file: BinaryIO, path: str) -> Iterator[Line | str]:
         words = text.split(b" ", 3)
         number, side, moment, end = words if len(words) == 4 else NO_WORDS
         # Most lines end as one before: these are taken without being parsed anew.
-        if end in ends and number == b"%d" % place and side in SIDES and moment.isdigit() and len(moment) < 20 and int(moment) < MOMENTS:
-            verdict, frames = ends[end]
-            yield make(Line, (place, SIDES[side], int(moment), verdict, frames))
+        if end in ends and number == b"%d" % place and side in SIDES and moment.isdigit() and len(moment) < 20 and (at := int(moment)) < MOMENTS:
+            yield make(Line, (place, SIDES[side], at, *ends[end]))
             continue
         line = line_of(text)
         if line and line.number == place and (line.verdict in verdicts or len(verdicts) < VERDICTS):

@@ -296,9 +296,9 @@ class Gathered:
                 most[0] = one
             if other > most[1]:
                 most[1] = other
-            if verdict == "PoolEmpty":
-                part.empty[pool] += 1
         if verdict == "PoolEmpty":
+            for part in (self.by_time.parts[-1], self.by_number.parts[-1]):
+                part.empty[pool] += 1
             self.first_empty[pool] = self.first_empty[pool] or moment
         if event.datagram:
             self.sessions.take(event)

@@ -163,10 +163,10 @@ class Story:
         went = list(islice(sent if count < 16 else limited(sent), count)) if count else []
         if len(went) < count:
             raise ValueError(f"event {number}: {names[3 - side]} has no frame left")
-        images = [datagram_of(octets, link) for _, link, octets, _, _, _ in went]
+        images = [datagram_of(one[2], one[1]) for one in went]
         if b"" in images:
             raise ValueError(f"event {number}: {names[3 - side]} has a frame that no gateway sends")
-        datagram = datagram_of(frame.octets, frame.link)
+        datagram = datagram_of(frame[2], frame[1])
         if went and not datagram:
             raise ValueError(f"event {number}: {names[side]} has a frame that no gateway passes")
         event = Event(number, side, moment, verdict, frame, datagram, went, images, not frame.octets)
