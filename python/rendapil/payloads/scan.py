@@ -32,6 +32,7 @@ from rendapil.payloads.addresses import (
 )
 from rendapil.payloads.applications import BREAKS, BY_NAME, BY_PORT, COPES, HIDDEN, TELLS, UNSURE, Application, application_of, said_in
 from rendapil.payloads.fields import WEB, Place, field_of
+from rendapil.payloads.followed import BY_FORM, Ends, Followed, form_of
 from rendapil.payloads.kept import (
     ALIAS,
     APPS,
@@ -85,6 +86,9 @@ BY_PORTS = ("TLS", "QUIC")
 
 METHODS = (b"GET ", b"POST", b"HEAD", b"PUT ", b"CONN", b"PROP")
 UPNP = b"schemas-upnp-org"
+NOTED = 1000
+"""The most frames of a place whose addresses are held against the connections that follow."""
+
 LATEST = 8
 """The most finds of the last frame that are kept for its line or comment."""
 
@@ -110,6 +114,7 @@ class Scan:
         self._unnamed = Trials()
         self._flows: dict[bytes, Flow] = {}
         self._opened: dict[bytes, None] = {}
+        self._followed = Followed()
         self._blocks: tuple[dict[bytes, set[bytes]], ...] = ({}, {})
         self._ranked: tuple[list[bytes], ...] = ()  # these blocks by side, those with the most hosts first, as long as no host comes
         self.scanned = 0
@@ -136,11 +141,13 @@ class Scan:
         else:
             return
         payload = whole[at : whole[2] << 8 | whole[3]]
-        if not payload and (protocol != TCP or whole[head + 13] & 18 != 2 or len(self._opened) >= FLOWS):
+        if not payload and (protocol != TCP or whole[head + 13] & 18 != 2):
             return
         key = came[12:20] + whole[head : head + 4] + whole[9:10]
         if not payload:
-            self._opened[key] = None
+            self._followed.open(key[:4], sent[0][16:20] if sent else key[4:8], key[10:12])
+            if len(self._opened) < FLOWS:
+                self._opened[key] = None
             return
         flow = self._flows.get(key) or self._begun(key, side, payload, sent)
         flow.frames += 1
@@ -179,6 +186,8 @@ class Scan:
             of, server = (other.app.of, other.server) if other.app.of.name and not (of.name and of.weight == HIDDEN) else (of, other.server)
         elif (protocol, server) not in BY_PORT and (key in self._opened or back in self._opened):
             server = far_port if key in self._opened else port
+        if protocol == UDP and not other:
+            self._followed.open(key[:4], back[:4], key[10:12])
         app = self._app(of, protocol, server)
         if len(self._flows) >= FLOWS:
             for old in list(self._flows)[: FLOWS // 2]:
@@ -267,7 +276,7 @@ class Scan:
                 yield one
 
     def _note(self, flow: Flow, key: bytes, number: int, side: int, payload: bytes, finds: list[Find], image: bytes) -> None:
-        """Notes what was found in a frame."""
+        """Notes what was found in a frame that went on to this address."""
         plain = [(one.at, one.end) for one in finds if one.form in PLAIN]
         told: dict[tuple[App, str], None] = {}
         for one in finds:
@@ -279,6 +288,8 @@ class Scan:
             if one.is_vague and meant.role not in (ITSELF, PEER) or one.form not in PLAIN and any(at <= one.at < end for at, end in plain):
                 continue
             app, found = self._use(flow, payload, one, meant)
+            if not found and app.of.weight == UNSURE and meant.role in (ITSELF, HOST):
+                found = form_of(payload, one, meant.role, Ends(int.from_bytes(key[8:10]), int.from_bytes(key[10:12])))
             weight = found.weight if found else default_of(app.of, meant.role)
             site = self._site(app, flow, key, side, number, payload, one._replace(field=found), meant, weight)
             if site:
@@ -289,6 +300,9 @@ class Scan:
                     site.values.add(one.address)
                 if len(site.flows) < VALUES:
                     site.flows.add(key)
+                is_known = site.is_followed or weight == BREAKS and one.form in PLAIN and found not in BY_FORM
+                if meant.role in (ITSELF, HOST) and not is_known and site.frames <= NOTED:
+                    self._followed.tell(image, app, site, payload, one)
             if one.form in PLAIN:
                 told[app, weight] = None
                 if len(self.latest) < LATEST:
@@ -418,6 +432,10 @@ def row_of(app: App) -> Row | None:
 
 def degree_of(app: App, site: Site) -> str:
     """How sure it is that a place has addresses, or nothing where chance may have put them there."""
+    if site.is_followed:
+        return SURE
+    if site.use in BY_FORM:
+        return LIKELY
     if site.form in PLAIN:
         return SURE
     if site.form == LITTLE and len(site.values) < 2:
@@ -456,12 +474,14 @@ def plural(count: int, name: str) -> str:
 
 MEANS = {
     BREAKS: "others connect to what it says",
-    UNSURE: "no known application",
+    UNSURE: "nobody knows whether others connect to it",
     TELLS: "the address is told, and seldom used",
     COPES: "the protocol expects a NAT",
     HIDDEN: "it can't be read",
 }
 """What an address in a payload does."""
+
+NOBODY = "no known application"
 
 REFUSED = {
     4: ("IP in IP", "another tunnel, over UDP or TCP"),
@@ -525,7 +545,7 @@ def told_row(scan: Scan, row: Row) -> Told:
     app, first = row.app, row.sites[0]
     is_plain = all(site.form in PLAIN for site in row.sites)
     says = first.use.says if first.use else app.of.carries if row.weight == app.of.weight else ""
-    means = (MEANS[row.weight] if app.of.name else MEANS[UNSURE]) + (f": {says}" if says else "")
+    means = (MEANS[row.weight] if app.of.name or row.weight == BREAKS else NOBODY) + (f": {says}" if says else "")
     chance = None if is_plain else float(f"{row.chance:.2g}")
     examples = [example_of(site, scan.is_before) for site in row.sites[:EXAMPLES]]
     todo = first.use.todo if first.use and first.use.todo else app.of.todo
