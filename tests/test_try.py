@@ -347,7 +347,7 @@ class Try(InRoom):
         self.assertIn("9 frames are NoSession: the capture has one direction of these connections alone", text)
         tunnel = [udp("10.1.0.5", 9, "10.2.0.9", 4789, bytes(60))] * 3 + [frames[0][:9] + b"\x2f" + frames[0][10:20] + b"\0\0\x88\xbe" + bytes(40)]
         text = said(*TRY, self.write("tunnel", capture(tunnel)))[1]
-        for line in ("3 frames are of a tunnel, VXLAN", "1 frame is of a tunnel, ERSPAN in GRE"):
+        for line in ("3 frames are of a tunnel, VXLAN", "1 frame is of a mirror, ERSPAN in GRE"):
             self.assertIn(line, text)
 
     def test_never_more(self) -> None:

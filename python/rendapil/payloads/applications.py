@@ -92,7 +92,7 @@ APPLICATIONS = [
     Application("dRuby", (8787,), (), TELLS, "references to objects have the URI of their server", "URIs by name"),
     Application("Pyro", (), (), TELLS, "URIs of objects have the server's address", "natHost by name"),
     Application("Erlang", (4369,), (), TELLS, "names of nodes hold their addresses", "names of nodes by host name"),
-    Application("Slurm", (6817, 6818), (), BREAKS, "the controller tells the addresses of nodes and of who asks", "NodeAddr by name, and the cluster in one realm"),
+    Application("Slurm", (6817, 6818), (), UNSURE, "the controller tells the addresses of nodes and of who asks", "NodeAddr by name, and the cluster in one realm"),
     Application("Spark", (7077,), (), BREAKS, "the driver, the master and workers tell each other's addresses", "spark.driver.host and SPARK_LOCAL_HOSTNAME by name"),
     Application("Hadoop", (8020,), (), BREAKS, "the name node tells the addresses of data nodes", "dfs.client.use.datanode.hostname = true, and names"),
     Application("Pulsar", (6650,), (), BREAKS, "lookups tell the addresses of brokers", "advertisedAddress by name, or a proxy"),

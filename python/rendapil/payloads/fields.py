@@ -184,6 +184,7 @@ REDIRECTED = Field("a redirect of the listener, which clients follow", BREAKS)
 CALLED_BACK = Field("the server calls back to this address", BREAKS)
 ROUTED = Field("a read-only route leads to it", BREAKS)
 BRACKETED = re.compile(rb"\*[2-5]\r\n\$\d+\r\n$|\$\d+\r\n(?i:(?:SLAVE|REPLICA)OF|MEET|MIGRATE|MONITOR)\r\n(?:\$\d+\r\n[^\r]*\r\n)?\$\d+\r\n$")
+SLURM_NODE = Field("a node or who asks, to which others connect", BREAKS)
 REDIS_NODE = Field("the table of a cluster's nodes, to which clients connect", BREAKS)
 
 
@@ -266,6 +267,13 @@ def of_redis(place: Place, before: bytes) -> Field | None:
     return REDIS_NODE if is_node else None
 
 
+def of_slurm(place: Place, before: bytes) -> Field | None:
+    """A string as Slurm packs it: behind its size with the zero at its end, which tells it from what others say on these ports."""
+    at, end = place.find.at, place.find.end
+    is_packed = place.payload[max(0, at - 4) : at] == (end - at + 1).to_bytes(4) and place.payload[end : end + 1] == b"\0"
+    return SLURM_NODE if is_packed else None
+
+
 def of_sql_server(place: Place, before: bytes) -> Field | None:
     """A change of the environment of kind 20 leads to another server."""
     return ROUTED if place.is_served and re.search(rb"(?s)\xe3..\x14", place.payload[max(0, place.find.at - 24) : place.find.at]) else None
@@ -280,6 +288,7 @@ SPECIAL = {
     "NFS": of_nfs,
     "Redis": of_redis,
     "SQL Server": of_sql_server,
+    "Slurm": of_slurm,
     **{name: of_http for name in WEB},
 }
 

@@ -5,7 +5,7 @@ from typing import NamedTuple
 
 from rendapil.payloads.addresses import ORDERED, TEXT, Field, Find, line_before
 from rendapil.payloads.applications import BREAKS, UNSURE
-from rendapil.payloads.kept import ITSELF, App, Site
+from rendapil.payloads.kept import ITSELF, PRIVATE, App, Site
 
 TODO = "names in place of addresses, a proxy, or both ends in one realm"
 FOLLOWED = Field("its reader then opened a connection to it", BREAKS, "", TODO)
@@ -37,7 +37,8 @@ class Ends(NamedTuple):
 
 
 def form_of(payload: bytes, one: Find, role: str, ends: Ends) -> Field | None:
-    """What the form of an address tells that means the sender or a host of its realm."""
+    """What the form of an address tells that means the sender, a host of its realm, or a private one that isn't known: a link of the web may lead to such a
+    one by its reader's own name."""
     if one.form == ORDERED:
         return socket_at(payload, one, ends)
     if one.form != TEXT or b"\0" in payload[one.at : one.end]:
@@ -49,7 +50,7 @@ def form_of(payload: bytes, one: Find, role: str, ends: Ends) -> Field | None:
     number = int(port[1]) if port else 0
     is_own = role == ITSELF and number in (0, ends.source)
     if scheme := SCHEME.search(before):
-        return None if is_own and scheme[1].lower() in WEB_SCHEMES else URI
+        return None if (is_own or role == PRIVATE) and scheme[1].lower() in WEB_SCHEMES else URI
     return ENDPOINT if port and not is_own and 0 < number < 65536 else None
 
 

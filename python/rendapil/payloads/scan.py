@@ -288,7 +288,7 @@ class Scan:
             if one.is_vague and meant.role not in (ITSELF, PEER) or one.form not in PLAIN and any(at <= one.at < end for at, end in plain):
                 continue
             app, found = self._use(flow, payload, one, meant)
-            if not found and app.of.weight == UNSURE and meant.role in (ITSELF, HOST):
+            if not found and app.of.weight == UNSURE and meant.role in (ITSELF, HOST, PRIVATE):
                 found = form_of(payload, one, meant.role, Ends(int.from_bytes(key[8:10]), int.from_bytes(key[10:12])))
             weight = found.weight if found else default_of(app.of, meant.role)
             site = self._site(app, flow, key, side, number, payload, one._replace(field=found), meant, weight)
@@ -484,11 +484,13 @@ MEANS = {
 NOBODY = "no known application"
 
 REFUSED = {
+    2: ("IGMP", "no multicast over the gateway"),
     4: ("IP in IP", "another tunnel, over UDP or TCP"),
     33: ("DCCP", "DCCP over UDP (RFC 6773)"),
     41: ("IPv6 in IPv4", "another tunnel, over UDP or TCP"),
     46: ("RSVP", "no reservations over the gateway"),
-    47: ("GRE", "end the tunnel before the gateway, or another one over UDP or TCP"),
+    47: ("GRE", "end the tunnel before the gateway, or another one over UDP or TCP. A mirror (ERSPAN): capture at its source"),
+    54: ("NHRP", "end the tunnel before the gateway"),
     50: ("ESP of IPsec", "NAT traversal (UDP 4500), or end the tunnel before the gateway"),
     51: ("AH of IPsec", "ESP with NAT traversal (UDP 4500)"),
     88: ("EIGRP", "a static route to the pool in each realm"),
@@ -498,11 +500,13 @@ REFUSED = {
     103: ("PIM", "no multicast over the gateway"),
     112: ("VRRP", "routers of a group in one realm"),
     108: ("IPComp", "no compression of packets"),
+    113: ("PGM", "no multicast over the gateway"),
     115: ("L2TP without UDP", "L2TP over UDP"),
     132: ("SCTP", "SCTP over UDP (RFC 6951), or TCP"),
     136: ("UDP-Lite", "UDP"),
     137: ("MPLS in IP", "MPLS over UDP (RFC 7510)"),
     139: ("HIP", "HIP over UDP (RFC 9028)"),
+    240: ("pfsync", "both firewalls in one realm"),
 }
 """Protocols that the gateway refuses, by number: their name, and what helps."""
 
@@ -559,15 +563,24 @@ def refused_row(protocol: int, count: int) -> Told:
     return Told(name, BREAKS, SURE, "the gateway refuses it", count, 0, count, None, ["it doesn't pass: only ICMP, TCP and UDP do"], todo)
 
 
-def summary_of(scan: Scan, rows: list[Told]) -> str:
-    """How much was looked at, and of how many applications nothing is told."""
+def summary_of(scan: Scan, rows: list[Told], cut: int = 0) -> str:
+    """How much was looked at, and of how many applications nothing is told. So many frames were cut by the capture."""
+    if not scan.scanned:
+        return "No payload passed, so none was looked at"
+    if cut:
+        return f"{said_of(scan, rows)}. {plural(cut, 'frame')} {'was' if cut == 1 else 'were'} cut by the capture: what stood behind the cut can't be judged"
+    return said_of(scan, rows)
+
+
+def said_of(scan: Scan, rows: list[Told]) -> str:
+    """The same of what was looked at."""
     looked = f"{plural(scan.scanned, 'payload')} of {plural(len(scan.apps), 'application')} were looked at"
     if not rows:
         return f"{looked}, and none was found"
     return f"{looked}. Nothing is told of {len(scan.apps) - len(rows):,} of them" if len(scan.apps) > len(rows) else looked
 
 
-def lines_of(scan: Scan) -> Iterator[str]:
+def lines_of(scan: Scan, cut: int = 0) -> Iterator[str]:
     """The same for an operator."""
     rows = told_rows(scan)
     yield "Addresses in payloads that the gateway leaves alone, by application"
@@ -579,4 +592,4 @@ def lines_of(scan: Scan) -> Iterator[str]:
         yield from (f"{'':17}{one}" for one in row.examples)
         if row.weight != COPES and row.todo:
             yield f"{'':17}To do: {row.todo}"
-    yield summary_of(scan, rows)
+    yield summary_of(scan, rows, cut)

@@ -30,12 +30,15 @@ from rendapil.trying.two_realms import TwoRealms, block_of, write_captures
 
 NAMES = ("settings.toml", "left.pcap", "right.pcap", "left-out.pcap", "right-out.pcap", "report.txt", "run.html", "run.pcapng")
 
+PCAPNG, OWN = b"\x0a\x0d\x0d\x0a", b"rendapil explain"
+"""How a pcapng file begins, and what stands in the head of one that --pcapng writes."""
+
 # The command.
 
 
 def parsed() -> argparse.Namespace:
     """The words of the command."""
-    end = "The status is 0, or 1 where the capture can't be read or no frame crosses, or 2 where the words are wrong, or that of the run."
+    end = "The status is 0, or 1 where the capture can't be read or no frame crosses or passes, or 2 where the words are wrong, or that of the run."
     parser = argparse.ArgumentParser(prog="rendapil try", description=__doc__, epilog=end)
     parser.add_argument("capture", metavar="CAPTURE", help="a capture as pcap or pcapng, packed by gzip or not, of any interface")
     parser.add_argument("--left", metavar="BLOCK", nargs="+", type=block_of, default=[], help="addresses of the left realm, as 10.1.0.0/16")
@@ -144,7 +147,7 @@ def try_it(words: argparse.Namespace, capture: str) -> int:
     with tempfile.NamedTemporaryFile("w", prefix="rendapil-", encoding="utf-8") as notes:
         json.dump(notes_of(realms, verdicts, lost, shlex.join([called(), "try", *sys.argv[1:]])), notes)
         notes.flush()
-        return shown_by_explain(words, files, run, notes.name)
+        return shown_by_explain(words, files, run, notes.name) or int(not verdicts["pass"] and verdicts.total() > 0)
 
 
 def shown_by_explain(words: argparse.Namespace, files: dict[str, str], run: list[str], notes: str) -> int:
@@ -159,11 +162,13 @@ def shown_by_explain(words: argparse.Namespace, files: dict[str, str], run: list
 
 
 def refuse_packed(capture: str, name: str) -> None:
-    """Ends where a capture is packed in a way that has to be undone first."""
+    """Ends where a capture is packed in a way that has to be undone first, or is what a try wrote of both sides."""
     with open(capture, "rb") as file:
-        head = file.read(4)
+        head = file.read(64)
+    if head[:4] == PCAPNG and OWN in head:
+        raise Fault(f"{shown(name)} has both sides of an earlier run, each frame twice: give the capture that this was made of")
     for begin, (what, command) in PACKED.items():
-        if head == begin and what != "gzip":
+        if head.startswith(begin) and what != "gzip":
             raise Fault(f"{shown(name)} is packed by {what}. Unpack it: {command} {quoted(name)} | {called()} try -")
 
 

@@ -33,7 +33,8 @@ def tell_realms(realms: TwoRealms, counts: list[int], folder: str) -> None:
     if same := realms.public_seen():
         mean = "public address means" if same == 1 else "public addresses mean"
         print(f"{same} {mean} the same in both realms. --public gives them aliases too.")
-    print()
+    if realms.left_out or realms.filled or realms.mended or realms.lines:
+        print()
     for what, count in sorted(realms.left_out.items()):
         print(f"{count:8}  {'frame' if count == 1 else 'frames'} left out: {what}")
     for count, what in (
@@ -81,6 +82,8 @@ def tell_verdicts(verdicts: Counter[str], lost: int) -> None:
     """How many frames passed, and why the others didn't."""
     means = verdicts_of()
     total, passed, joined = verdicts.total(), verdicts["pass"], verdicts["held"] - lost
+    if total and not passed:
+        print("\nNOTHING PASSES: the lines below say why. So nothing can be told of what works behind the gateway.")
     print(
         f"\n{passed} of {counted(total, 'frame')} that {'goes' if total == 1 else 'go'} to the gateway pass{'es' if passed == 1 else ''}"
         + (f", and {joined} went out as parts of these." if joined else ".")
@@ -176,6 +179,7 @@ def notes_of(realms: TwoRealms, verdicts: Counter[str], lost: int, command: str)
     return Notes(
         command=shown(command),
         went=verdicts.total(),
+        cut=realms.filled,
         left_out=left_out,
         changed=[one for one in changed if one[0]],
         lines=realms.lines,
