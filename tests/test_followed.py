@@ -9,7 +9,7 @@ from datagrams import tcp  # testing says where it is
 from rendapil.bindings import Bindings
 from rendapil.document import document_in
 from rendapil.numbers import TCP
-from rendapil.payloads.followed import FOLLOWED, Ends, Followed, form_of
+from rendapil.payloads.followed import Ends, Followed, form_of
 from rendapil.payloads.addresses import texts_in
 from rendapil.payloads.kept import HOST, ITSELF, PRIVATE
 from rendapil.payloads.scan import Scan, meaning_in, told_rows
@@ -38,11 +38,16 @@ class Following(unittest.TestCase):
             self.assertNotEqual(after(payload, 4321, host="10.0.0.7"), [("breaks", "sure")])
 
     def test_before(self) -> None:
-        """What the reader had opened before it was told isn't followed, nor what it opens much later."""
-        met = Followed()
-        met.open(b"aaaa", b"bbbb", b"\1\2")
-        self.assertEqual((met._told, len(met._met)), ({}, 1))
-        self.assertEqual(FOLLOWED.weight, "breaks")
+        """What the reader had opened before it was told isn't followed."""
+        scan = Scan(meaning_in(Bindings(document_in(RIGHT + STATICS), lambda _: None)))
+        opened = [tcp(one, 5000, other, 4321, 2, 1, 0) for one, other in (("10.0.0.9", HOSTS["10.0.0.6"]), ("192.168.200.9", "10.0.0.6"))]
+        telling = [
+            tcp(one, 40_000, other, 999, 24, 1, 1, b"a 10.0.0.6\0\x10\xe1")
+            for one, other in (("10.0.0.5", "192.168.200.9"), ("172.16.9.1", "10.0.0.9"))
+        ]
+        for number, (side, (came, sent)) in enumerate(((1, opened), (0, telling), (1, opened)), 1):
+            scan.take(number, side, came, [sent])
+        self.assertEqual([row.weight for row in told_rows(scan)], ["unsure"])
 
     def test_forms(self) -> None:
         """URIs, and addresses with a port that isn't the connection's own. Lines for people, pairs of ends and the own end aren't."""

@@ -248,7 +248,10 @@ def dns_of(payload: bytes) -> str:
 
 def any_of(signatures: list[tuple[str, re.Pattern[bytes]]]) -> re.Pattern[bytes]:
     """One pattern of all of these: the first that fits counts, and tells its number."""
-    parts = (b"(?P<s%d>%s)" % (number, b"(?s:" + one.pattern + b")" if one.flags & re.DOTALL else one.pattern) for number, (_, one) in enumerate(signatures))
+    parts = (
+        b"(?P<s%d>%s)" % (number, b"(?s:" + one.pattern + b")" if one.flags & re.DOTALL else one.pattern)
+        for number, (_, one) in enumerate(signatures)
+    )
     return re.compile(b"|".join(parts))
 
 

@@ -84,7 +84,11 @@ RULES: dict[str, list[Rule]] = {
     "MongoDB": [rule(rb"Linux|client$|remote$", TELLS, "a line about clients")],
     "MySQL": [
         rule(rb"(?:MASTER|SOURCE)_HOST\s*=\s*['\"]$", BREAKS, "the replica connects to it"),
-        rule(rb"\bCONNECTION\s*=\s*['\"]\w+://[^'\"]*$|\bOPTIONS\s*\([^)]*\bHOST\s+['\"]$|group_replication_\w+\s*=\s*['\"][^'\"]*$", BREAKS, "the server connects to it"),
+        rule(
+            rb"\bCONNECTION\s*=\s*['\"]\w+://[^'\"]*$|\bOPTIONS\s*\([^)]*\bHOST\s+['\"]$|group_replication_\w+\s*=\s*['\"][^'\"]*$",
+            BREAKS,
+            "the server connects to it",
+        ),
     ],
     "PostgreSQL": [rule(rb"\bhost(?:addr)?(?:\s*=\s*'?|\s+')$", BREAKS, "the server connects to it")],
     "IBM MQ": [rule(rb"CONNAME\W*$", BREAKS, "queue managers connect to it")],

@@ -21,7 +21,9 @@ one has to be: for an application that is known to tell addresses only, and for 
 
 SCHEME = re.compile(rb"([A-Za-z][\w+.-]{1,24}):/{2,3}(?:[^\s/@\"'<>]{1,60}@)?\[?$")
 PORT = re.compile(rb"\]?(?:[:#$]|['\"]?\s?[,:]\s?['\"]?|\$port\$|['\"]?\s*,\s*['\"]?\w{0,12}[pP]ort['\"]?\s*[:=]\s*['\"]?)(\d{1,5})(?![\d.])")
-SAID = re.compile(rb"(?:[A-Za-z]{2,}[ ,:]+){2}\W{0,2}$|\d\d:\d\d:\d\d|^[A-Za-z-]*(?:Host|Via|From|For|IP|Client|Peer|Remote|Source|Agent|Received)\s*:", re.I)
+SAID = re.compile(
+    rb"(?:[A-Za-z]{2,}[ ,:]+){2}\W{0,2}$|\d\d:\d\d:\d\d|^[A-Za-z-]*(?:Host|Via|From|For|IP|Client|Peer|Remote|Source|Agent|Received)\s*:", re.I
+)
 PAIR = re.compile(rb"\d\s*(?:->|<->|=>|<-|<=>)\s*$")
 ARROW = re.compile(rb"(?::\d{1,5})?\s*(?:->|<->|=>|<-|<=>)")
 """What stands before an address in a line for people, and around one in a pair of ends."""
@@ -115,9 +117,9 @@ def has_port(told: Told, port: bytes) -> bool:
             return True
     if told.app.of.weight != UNSURE:
         return False
-    near = (told.front[-2:], told.front[-4:-2], told.behind[:2], told.behind[2:4])
+    near = [told.front[-2:], told.front[-4:-2], told.behind[:2], told.behind[2:4]]
     if told.site.form == TEXT:  # a counted string has its length between, and fills up
-        near += (told.front[-8:-6], told.front[-6:-4])
+        near += [told.front[-8:-6], told.front[-6:-4]]
     return any(two in (port, port[::-1]) for two in near)
 
 

@@ -162,6 +162,7 @@ SAID = [
     ("Akka", rb"(?s:.{0,60})akka(?:\.tcp|\.ssl\.tcp)?://|AKKA[\x00\x01]"),
     (".NET remoting", rb"\.NET\x01\x00"),
     ("MPI", rb"(?s:.{0,60})cmd=(?:init|get_maxsize|barrier_in|fullinit|initack|put|get|spawn)\b"),
+    ("MPI", rb"(?s:.{0,300}?)\d{5,10}\.\d{1,6};tcp://"),
     ("NVMe over TCP", rb"\x00\x00\x80\x00\x80\x00\x00\x00"),
     ("XRootD", rb"\x00{12}\x00\x00\x00\x04\x00\x00\x07\xdc"),
     ("iRODS", rb"\x00\x00\x00(?s:.)<MsgHeader_PI>"),
