@@ -345,6 +345,9 @@ class Try(InRoom):
         text = self.tried(self.write("one way", capture(one_way)), "--left", "10.1.0.0/16")[1]
         self.assertIn("Most connections of TCP have one direction alone", text)
         self.assertIn("9 frames are NoSession: the capture has one direction of these connections alone", text)
+        for line in ("NOTHING PASSES", "No payload passed, so none was looked at"):
+            self.assertIn(line, text)
+        self.assertNotIn("\n\n\n", text)
         tunnel = [udp("10.1.0.5", 9, "10.2.0.9", 4789, bytes(60))] * 3 + [frames[0][:9] + b"\x2f" + frames[0][10:20] + b"\0\0\x88\xbe" + bytes(40)]
         text = said(*TRY, self.write("tunnel", capture(tunnel)))[1]
         for line in ("3 frames are of a tunnel, VXLAN", "1 frame is of a mirror, ERSPAN in GRE"):
