@@ -1,10 +1,12 @@
 """Clients of sessions for which no program of Debian does it by itself: `talk.py NAME`."""
+import json
 import os
 import socket
 import struct
 import subprocess
 import sys
 import time
+import urllib.request
 from collections.abc import Callable
 
 
@@ -256,7 +258,28 @@ def gtp() -> None:
     print(one.recv(999))
 
 
+def janus() -> None:
+    """Offers a call to the echo test of Janus, and takes its answer."""
+    base, words = "http://10.2.0.9:8088/janus", {"Content-Type": "application/json"}
+
+    def post(path: str, body: dict[str, object]) -> dict[str, dict[str, int]]:
+        asked = urllib.request.Request(base + path, json.dumps({"transaction": "a", **body}).encode(), words)
+        with urllib.request.urlopen(asked, timeout=5) as answer:
+            found: dict[str, dict[str, int]] = json.load(answer)
+        return found
+
+    session = f"/{post('', {'janus': 'create'})['data']['id']}"
+    handle = f"{session}/{post(session, {'janus': 'attach', 'plugin': 'janus.plugin.echotest'})['data']['id']}"
+    lines = ["v=0", "o=- 1 1 IN IP4 10.1.0.5", "s=-", "t=0 0", "m=audio 9 UDP/TLS/RTP/SAVPF 111", "c=IN IP4 10.1.0.5", "a=mid:0", "a=sendrecv"]
+    lines += ["a=rtcp-mux", "a=ice-ufrag:abcd", "a=ice-pwd:abcdefghabcdefghabcdefgh", "a=setup:actpass", "a=rtpmap:111 opus/48000/2"]
+    lines += ["a=fingerprint:sha-256 " + ":".join(["AB"] * 32), "a=candidate:1 1 udp 2113937151 10.1.0.5 50000 typ host", ""]
+    post(handle, {"janus": "message", "body": {"audio": True}, "jsep": {"type": "offer", "sdp": "\r\n".join(lines)}})
+    for _ in range(3):
+        print(urllib.request.urlopen(f"{base}{session}?maxev=1", timeout=5).read())
+
+
 PROGRAMS: dict[str, Callable[[], object]] = {
+    "janus": janus,
     "irc": lambda: irc("PRIVMSG bob :\x01DCC SEND file 167837701 4000 9\x01\r\n"),
     "irc-chat": lambda: irc("PRIVMSG bob :hello\r\n"),
     "tracker": tracker,

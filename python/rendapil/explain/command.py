@@ -95,14 +95,15 @@ def tell_refusals(story: Story) -> None:
         print(f"and {len(rows) - len(shown_rows)} rows more: --json gives all")
 
 
-def tell_payloads(scan: "Scan", changes: "Changes | None" = None) -> None:
-    """Which DNS answers were changed, where that is asked for, and which applications have addresses in their payloads that the gateway leaves alone."""
+def tell_payloads(scan: "Scan", changes: "Changes | None" = None, cut: int = 0) -> None:
+    """Which DNS answers were changed, where that is asked for, and which applications have addresses in their payloads that the gateway leaves alone. So
+    many frames were cut."""
     from rendapil.explain.changes import lines_of as lines_of_changes
     from rendapil.payloads.scan import lines_of
 
     if changes and (changed := list(lines_of_changes(changes))):
         print(*changed, sep="\n", end="\n\n")
-    print(*lines_of(scan), sep="\n")
+    print(*lines_of(scan, cut), sep="\n")
 
 
 def tell(story: Story, scan: "Scan") -> None:
@@ -354,7 +355,7 @@ def tell_form(words: argparse.Namespace, story: Story, scan: "Scan | None", chan
     if words.statics:
         print(statics(worth_keeping(story)), end="")
     elif scan and changes and words.payloads:
-        tell_payloads(scan, changes)
+        tell_payloads(scan, changes, notes_in(words.notes)["cut"])
     elif scan and changes and words.json:
         tell_json(story, scan, changes)
     elif scan and changes and not (words.html or words.pcapng or words.new_settings or words.events):

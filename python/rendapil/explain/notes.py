@@ -3,10 +3,11 @@ from typing import TypedDict
 
 
 class Notes(TypedDict):
-    """The command, how many frames went to the gateway, what was left out and changed, the hosts that need a static, and how large pools have to be."""
+    """The command, how many frames went to the gateway and were cut, what was left out and changed, the hosts that need a static, and how large pools have to be."""
 
     command: str
     went: int
+    cut: int
     left_out: list[tuple[int, str]]
     changed: list[tuple[int, str]]
     lines: int
@@ -16,5 +17,5 @@ class Notes(TypedDict):
     odd: list[str]
 
 
-NONE = Notes(command="", went=0, left_out=[], changed=[], lines=0, statics=[], statics_count=0, pools=[], odd=[])
+NONE = Notes(command="", went=0, cut=0, left_out=[], changed=[], lines=0, statics=[], statics_count=0, pools=[], odd=[])
 """Those of a run that no `try` made."""

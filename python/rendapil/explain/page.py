@@ -166,7 +166,11 @@ class Page:
         payloads = told_rows(scan)
         talks, talks_count = self.talks.rows()
         return {
-            **{"payloads": payloads, "payloads_said": summary_of(scan, payloads), "verdict_said": self.verdict_of(run, payloads, changes)},
+            **{
+                "payloads": payloads,
+                "payloads_said": summary_of(scan, payloads, self.notes["cut"]),
+                "verdict_said": self.verdict_of(run, payloads, changes),
+            },
             **{"of": self.of, "notes": self.notes, "pools_said": self.pools_said(run), "talks": talks, "talks_count": talks_count},
             **{"zones": changes.rows()[:SHOWN_ZONES], "zones_count": len(changes.zones), "said_of": said_of},
             **{"todo": self.todo_of, "texts": self.texts},

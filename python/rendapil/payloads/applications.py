@@ -1,29 +1,14 @@
 """Applications by their ports and by how their messages begin: what addresses their payloads are known to carry, and what helps."""
 import re
 from functools import lru_cache
-from typing import NamedTuple
 
 from rendapil.numbers import TCP, UDP
+from rendapil.payloads.further import FURTHER, SAID
+from rendapil.payloads.weights import BREAKS, COPES, HIDDEN, MEMBERS, ROUTERS, TELLS, UNSURE, Application
 
-BREAKS, UNSURE, TELLS, COPES, HIDDEN = "breaks", "unsure", "tells", "copes", "hidden"
-"""What an address in a payload means for an application: others connect to it, or go by it; nobody knows, since the application isn't known; they only
-read it; the protocol expects a NAT; or nobody can read it."""
-
-
-class Application(NamedTuple):
-    """An application, its TCP and UDP ports, what an address in its payload means where no rule of `fields` says it, where it stands, and what helps."""
-
-    name: str
-    tcp: tuple[int, ...]
-    udp: tuple[int, ...]
-    weight: str
-    carries: str
-    todo: str
-
+__all__ = ["BREAKS", "COPES", "HIDDEN", "MEMBERS", "TELLS", "UNSURE", "Application"]
 
 SBC = "a session border controller or a proxy between the realms, or ICE with a TURN server that both reach"
-MEMBERS = "names in place of addresses, that DNS resolves in each realm, or a proxy"
-ROUTERS = "no routing protocol over the gateway: a static route to the pool in each realm"
 # fmt: off
 APPLICATIONS = [
     Application("SIP", (5060,), (5060,), BREAKS, "Contact and SDP tell where calls and media go", SBC),
@@ -56,7 +41,7 @@ APPLICATIONS = [
     Application("NIS", (), (), BREAKS, "bindings and the map of hosts have addresses", "DNS in place of NIS, and a server in each realm"),
     Application("ONC RPC", (), (), UNSURE, "what its program says", "ask who runs it, and test it through the gateway"),
     Application("MS-RPC", (135, 593), (), BREAKS, "the endpoint mapper tells an address and a port", "services on fixed ports, by name"),
-    Application("DHCP", (), (67, 68), BREAKS, "a relay's address, to which the server answers, and the leases", "a DHCP server in each realm"),
+    Application("DHCP", (), (67, 68, 4011), BREAKS, "a relay's address, to which the server answers, and the leases", "a DHCP server in each realm"),
     Application("RADIUS", (), (1645, 1646, 1812, 1813, 3799), TELLS, "NAS-IP-Address", "let the server know clients by NAS-Identifier"),
     Application("Diameter", (3868,), (), TELLS, "Host-IP-Address", "an agent between the realms"),
     Application("TACACS+", (49,), (), TELLS, "rem_addr", "nothing"),
@@ -91,13 +76,13 @@ APPLICATIONS = [
     Application("SQL Server", (1433,), (1434,), TELLS, "routing of availability groups tells hosts", MEMBERS),
     Application("MySQL", (3306, 33060), (), TELLS, "commands and tables of replication tell hosts", MEMBERS),
     Application("PostgreSQL", (5432,), (), TELLS, "connection strings tell hosts", MEMBERS),
-    Application("Galera", (4567,), (), BREAKS, "members tell each other's addresses", MEMBERS),
+    Application("Galera", (4567, 4568), (), BREAKS, "members tell each other's addresses", MEMBERS),
     Application("Firebird", (3050,), (), TELLS, "a request for events is answered with an address", "no events, or RemoteBindAddress and a proxy"),
     Application("Redis", (6379, *range(7000, 7006)), (), TELLS, "MOVED, ASK and tables of nodes tell addresses", "cluster-announce-hostname, or a proxy"),
     Application("Redis Sentinel", (26379,), (), BREAKS, "sentinels tell the address of the master", "resolve-hostnames and announce-hostnames, or a proxy"),
     Application("Kafka", (9092,), (), BREAKS, "metadata tells the addresses of brokers", "advertised.listeners by name"),
     Application("ZooKeeper", (2181,), (), TELLS, "nodes hold the addresses of servers", MEMBERS),
-    Application("MongoDB", (27017,), (), BREAKS, "hello tells the members of a replica set", MEMBERS),
+    Application("MongoDB", (27017, 27018, 27019), (), BREAKS, "hello tells the members of a replica set", MEMBERS),
     Application("Elasticsearch", (9200, 9300), (), TELLS, "clients that sniff connect to publish_address", "sniffing off, or network.publish_host by name"),
     Application("Cassandra", (9042,), (), BREAKS, "tables and events tell the addresses of nodes", "an address translator in the driver, or nodes and clients in one realm"),
     Application("etcd", (2379, 2380), (), BREAKS, "members tell the URLs for clients and peers", "advertise-client-urls by name"),
@@ -107,13 +92,13 @@ APPLICATIONS = [
     Application("dRuby", (8787,), (), TELLS, "references to objects have the URI of their server", "URIs by name"),
     Application("Pyro", (), (), TELLS, "URIs of objects have the server's address", "natHost by name"),
     Application("Erlang", (4369,), (), TELLS, "names of nodes hold their addresses", "names of nodes by host name"),
-    Application("Slurm", (6817, 6818), (), BREAKS, "the controller tells the addresses of nodes and of who asks", "NodeAddr by name, and the cluster in one realm"),
+    Application("Slurm", (6817, 6818), (), UNSURE, "the controller tells the addresses of nodes and of who asks", "NodeAddr by name, and the cluster in one realm"),
     Application("Spark", (7077,), (), BREAKS, "the driver, the master and workers tell each other's addresses", "spark.driver.host and SPARK_LOCAL_HOSTNAME by name"),
     Application("Hadoop", (8020,), (), BREAKS, "the name node tells the addresses of data nodes", "dfs.client.use.datanode.hostname = true, and names"),
     Application("Pulsar", (6650,), (), BREAKS, "lookups tell the addresses of brokers", "advertisedAddress by name, or a proxy"),
     Application("RocketMQ", (9876, 10911), (), BREAKS, "the name server tells the addresses of brokers", "brokerIP1 by name, or a proxy"),
     Application("Hazelcast", (5701,), (), BREAKS, "members tell each other's addresses", "public-address by name"),
-    Application("Couchbase", (8091, 11210), (), BREAKS, "the map of a cluster tells the addresses of nodes", "alternate addresses by name"),
+    Application("Couchbase", (11210,), (), BREAKS, "the map of a cluster tells the addresses of nodes", "alternate addresses by name"),
     Application("ActiveMQ", (61616,), (), TELLS, "the broker tells its URL and those of its peers", "publishedAddressPolicy by name"),
     Application("Ceph", (3300, 6789), (), BREAKS, "maps tell the addresses of monitors and of OSDs", "storage and its clients in one realm"),
     Application("GlusterFS", (24007, 24008), (), BREAKS, "volume files have the addresses of bricks", "bricks by name"),
@@ -136,7 +121,7 @@ APPLICATIONS = [
     Application("WINS", (42,), (), BREAKS, "records of names have addresses", "DNS in place of WINS"),
     Application("NDMP", (10000,), (), BREAKS, "the data server tells its address", "a backup server in each realm"),
     Application("RDP", (3389,), (3389,), TELLS, "a connection broker may redirect to an address", "redirects by name"),
-    Application("Citrix", (1494, 2598), (), BREAKS, "the broker tells the server's address", "a Citrix gateway"),
+    Application("Citrix", (1494, 2598), (1604,), BREAKS, "the broker tells the server's address", "a Citrix gateway"),
     Application("MQTT", (1883,), (), TELLS, "topics and messages may name hosts", "names"),
     Application("AFS", (), tuple(range(7000, 7010)), BREAKS, "the volume server tells the addresses of file servers", "file servers and clients in one realm"),
     Application("BitTorrent", (6969,), (6881, 6969), TELLS, "trackers and peers tell the addresses of peers", "IPv6, or peers in one realm"),
@@ -169,10 +154,11 @@ APPLICATIONS = [
 UNKNOWN = Application("", (), (), UNSURE, "", "ask who runs it, and test it through the gateway: try writes what it would get")
 """An application that nobody knows."""
 
+APPLICATIONS += FURTHER
 BY_NAME = {one.name: one for one in APPLICATIONS}
 BY_PORT = {(protocol, port): one for one in APPLICATIONS for protocol, ports in ((TCP, one.tcp), (UDP, one.udp)) for port in ports}
 
-VAGUE = {(TCP, port) for port in (3128, 4222, 6667, *range(7000, 7006), 8000, 8080)}
+VAGUE = {(TCP, port) for port in (3128, 4222, 5000, 6667, *range(7000, 7006), 7500, 8000, 8080)}
 """Ports that others use too: only what is said there tells."""
 
 SHARED = ("HTTP", "IPP", "TLS", "Elasticsearch", "Consul, Nomad, Serf", "BitTorrent", "RMI, JMX")
@@ -227,6 +213,7 @@ SIGNATURES = [
     ("lists of game servers", re.compile(rb"\xff{4}(?:getservers|\x66\n)")),
     ("Gopher", re.compile(rb"[0-9ghIi][^\t\r\n]{0,200}\t[^\t\r\n]{0,300}\t[^\t\r\n]{1,100}\t\d{1,5}\r\n")),
 ]
+SIGNATURES += [(name, re.compile(pattern)) for name, pattern in SAID]
 PROGRAMS = {100000: "portmap", 100003: "NFS", 100005: "NFS mounts", 100004: "NIS", 100007: "NIS", 100009: "NIS", 600100069: "NIS"} | {
     program: "GlusterFS" for program in (1238433, 1238463, 1298437, 14398633, 34123456)
 }
@@ -259,11 +246,22 @@ def dns_of(payload: bytes) -> str:
     return "DNS on another port than 53" if is_end else ""
 
 
+def any_of(signatures: list[tuple[str, re.Pattern[bytes]]]) -> re.Pattern[bytes]:
+    """One pattern of all of these: the first that fits counts, and tells its number."""
+    parts = (
+        b"(?P<s%d>%s)" % (number, b"(?s:" + one.pattern + b")" if one.flags & re.DOTALL else one.pattern)
+        for number, (_, one) in enumerate(signatures)
+    )
+    return re.compile(b"|".join(parts))
+
+
+ANY = any_of(SIGNATURES)
+
+
 def said_in(protocol: int, payload: bytes) -> str:
     """The name of the application whose message a payload begins, by what is said."""
-    for name, signature in SIGNATURES:
-        if signature.match(payload):
-            return name
+    if found := ANY.match(payload):
+        return SIGNATURES[int((found.lastgroup or "s0")[1:])][0]
     length = 2 if protocol == TCP and int.from_bytes(payload[:2]) == len(payload) - 2 else 0
     return rpc_of(protocol, payload) or dns_of(payload[length:])
 

@@ -82,8 +82,29 @@ RULES: dict[str, list[Rule]] = {
     ],
     "Oracle": [rule(rb"", TELLS, "a connection names the host that it is for")],
     "MongoDB": [rule(rb"Linux|client$|remote$", TELLS, "a line about clients")],
-    "MySQL": [rule(rb"(?:MASTER|SOURCE)_HOST\s*=\s*['\"]$", BREAKS, "the replica connects to it")],
-    "PostgreSQL": [rule(rb"\bhost(?:addr)?\s*=\s*'?$", BREAKS, "the server connects to it")],
+    "MySQL": [
+        rule(rb"(?:MASTER|SOURCE)_HOST\s*=\s*['\"]$", BREAKS, "the replica connects to it"),
+        rule(
+            rb"\bCONNECTION\s*=\s*['\"]\w+://[^'\"]*$|\bOPTIONS\s*\([^)]*\bHOST\s+['\"]$|group_replication_\w+\s*=\s*['\"][^'\"]*$",
+            BREAKS,
+            "the server connects to it",
+        ),
+    ],
+    "PostgreSQL": [rule(rb"\bhost(?:addr)?(?:\s*=\s*'?|\s+')$", BREAKS, "the server connects to it")],
+    "IBM MQ": [rule(rb"CONNAME\W*$", BREAKS, "queue managers connect to it")],
+    "MSMQ": [rule(rb"DIRECT=TCP:$", BREAKS, "the queue of a message leads to it")],
+    "AMQP": [rule(rb"network-host\W{0,4}$", BREAKS, "a redirect that clients follow")],
+    "libvirt": [
+        rule(rb"<(?:graphics|listen)\b[^>]*(?:listen|address)=['\"]$", BREAKS, "viewers connect to it"),
+        rule(rb"(?:tcp|unix|rdma):(?://)?$", BREAKS, "a migration goes to it"),
+    ],
+    "QEMU monitor": [rule(rb"(?:tcp|rdma):$", BREAKS, "a migration goes to it")],
+    "Open vSwitch, OVN": [rule(rb"(?:remote_ip|\bip|target|encap-ip)\"[^{}\]]*[\"/:]$", BREAKS, "switches connect to it, or tunnels end there")],
+    "POP3, IMAP": [rule(rb"REFERRAL imap://(?:[^\s@]*@)?$", BREAKS, "a referral that clients follow")],
+    "Sieve": [rule(rb"(?:REFERRAL|BYE|NO)\W.*sieve://(?:[^\s@]*@)?$", BREAKS, "a referral that clients follow")],
+    "WHOIS": [rule(rb"^(?:ReferralServer|%referral|refer|whois)\s*:?\s*(?:r?whois://)?$", BREAKS, "a referral that clients follow")],
+    "RTMP": [rule(rb"redirect\W*(?:rtmp\w*://)?$", BREAKS, "a redirect that clients follow")],
+    "MQTT": [rule(rb"\w+://$", TELLS, "a value"), rule(rb"\x1c..(?:\w+://)?$", BREAKS, "a reference to another server")],
     "etcd": [rule(rb"https?://$", BREAKS, "a member's URL, to which clients and members connect"), rule(rb"", TELLS, "a name or a value has it")],
     "Dask": [rule(rb"(?:tcp|tls|ucx)://$", BREAKS, "others connect to a contact address"), rule(rb"", TELLS, "a name or a value has it")],
     "dRuby": [rule(rb"dr\w+://$", BREAKS, "a reference to an object, to whose server clients connect")],
@@ -123,12 +144,31 @@ HTTP_RULES = [
     rule(rb"\b(?:PROXY|SOCKS[45]?|HTTPS?) $", BREAKS, "a file of proxies tells where browsers connect"),
     rule(rb"\b(?:href|src|action|url|longdesc|poster|data)\s*[=(]\s*[\"']?\w+://[^/\"'\s]*$", BREAKS, "a link or a picture by address"),
     rule(rb"^(?:File\d+=)?(?:https?|rtsp|mms|ftp)://$", BREAKS, "a list of streams leads to it"),
+    rule(
+        rb"<(?:\w+:)?(?:location|loc|link|BaseURL|enclosure|ref|address|jnlp|Connection|WebApp)\b[^<>]*(?:>|=\")\w+://[^/\"'\s]*$|^Link\s*:[^\r]*<\w+://$",
+        BREAKS,
+        "a link or a picture by address",
+    ),
+    rule(
+        rb"\"(?!scrape|global)\w*(?:url|uri|href|endpoint|issuer|location|redirect|LocalAddress|homeserver|server)\w*\"\s*:\s*\"[a-z][\w+.-]*://[^\"/]*$",
+        BREAKS,
+        "clients connect to it",
+    ),
     rule(rb"^\s*(?:chain|kernel|initrd|imgfetch|sanboot|set next-server)\b.*$", BREAKS, "a boot script loads from it"),
+    rule(rb"^(?:WWW|Proxy)-Authenticate:.*\brealm=\"?\w+://$", BREAKS, "clients get their token from the realm"),
+    rule(rb"(?:^|\\r\\n|\\n)[ca]=[^\\]*$", BREAKS, "SDP tells where media goes", "WebRTC"),
+    rule(rb"\"candidate\"\s*:\s*\"[^\"]*$", BREAKS, "a candidate tells where media goes", "WebRTC"),
+    rule(rb"^(?:router \S+ |r \S+ \S+ (?:\S+ )?[\d-]+ [\d:]+ |dir-source \S+ \S+ \S+ )$", BREAKS, "relays and clients connect to it", "Tor"),
+    rule(rb"^(?:User-Agent: libprocess/|Libprocess-From:).*@$", BREAKS, "answers go to where libprocess is", "Mesos"),
+    rule(rb"<(?:\w+:)?Address>\s*\w+://$", BREAKS, "answers and events go to it"),
+    rule(rb"<ServerAddress\b[^>]*>$|^(?:HttpBrowser)?Address=$", BREAKS, "clients connect to it", "Citrix"),
+    rule(rb"^full address:s:$", BREAKS, "clients connect to it", "RDP"),
+    rule(rb"\"(?:internalipaddress|network-host)\"\s*:\s*\"$", BREAKS, "clients connect to it"),
 ]
 PROXIED = rule(rb"^(?:CONNECT |[A-Z]+ \w+://)", BREAKS, "a proxy of the other realm connects to it")
 HOSTED = Field("Host and what servers make of it", TELLS)
 MADE_OF_HOST = Field("a redirect to the host that was asked for: servers make it of Host, which would be an alias", TELLS)
-LINKED = HTTP_RULES[-3:-1]
+LINKED = [one for one in HTTP_RULES if one[1].says in ("a link or a picture by address", "a list of streams leads to it", "clients connect to it")]
 """Rules of links: what has the address that the client asked for is taken as made of it."""
 
 WEB = ("HTTP", "SSDP, UPnP", "WS-Discovery, ONVIF", "Elasticsearch", "Consul, Nomad, Serf", "IPP", "BitTorrent", "TLS")
@@ -148,6 +188,7 @@ REDIRECTED = Field("a redirect of the listener, which clients follow", BREAKS)
 CALLED_BACK = Field("the server calls back to this address", BREAKS)
 ROUTED = Field("a read-only route leads to it", BREAKS)
 BRACKETED = re.compile(rb"\*[2-5]\r\n\$\d+\r\n$|\$\d+\r\n(?i:(?:SLAVE|REPLICA)OF|MEET|MIGRATE|MONITOR)\r\n(?:\$\d+\r\n[^\r]*\r\n)?\$\d+\r\n$")
+SLURM_NODE = Field("a node or who asks, to which others connect", BREAKS)
 REDIS_NODE = Field("the table of a cluster's nodes, to which clients connect", BREAKS)
 
 
@@ -230,6 +271,13 @@ def of_redis(place: Place, before: bytes) -> Field | None:
     return REDIS_NODE if is_node else None
 
 
+def of_slurm(place: Place, before: bytes) -> Field | None:
+    """A string as Slurm packs it: behind its size with the zero at its end, which tells it from what others say on these ports."""
+    at, end = place.find.at, place.find.end
+    is_packed = place.payload[max(0, at - 4) : at] == (end - at + 1).to_bytes(4) and place.payload[end : end + 1] == b"\0"
+    return SLURM_NODE if is_packed else None
+
+
 def of_sql_server(place: Place, before: bytes) -> Field | None:
     """A change of the environment of kind 20 leads to another server."""
     return ROUTED if place.is_served and re.search(rb"(?s)\xe3..\x14", place.payload[max(0, place.find.at - 24) : place.find.at]) else None
@@ -244,6 +292,7 @@ SPECIAL = {
     "NFS": of_nfs,
     "Redis": of_redis,
     "SQL Server": of_sql_server,
+    "Slurm": of_slurm,
     **{name: of_http for name in WEB},
 }
 

@@ -80,7 +80,7 @@ class Example(NamedTuple):
 
 @dataclass(slots=True)
 class Site:
-    """A place where messages of an application have an address."""
+    """A place where messages of an application have an address. `is_followed`: its reader opened a connection to it."""
 
     form: str
     role: str
@@ -90,6 +90,7 @@ class Site:
     use: Field | None = None
     frames: int = 0
     last: int = 0
+    is_followed: bool = False
     values: set[int] = field(default_factory=set)
     flows: set[bytes] = field(default_factory=set)
 

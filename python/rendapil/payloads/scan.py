@@ -32,6 +32,7 @@ from rendapil.payloads.addresses import (
 )
 from rendapil.payloads.applications import BREAKS, BY_NAME, BY_PORT, COPES, HIDDEN, TELLS, UNSURE, Application, application_of, said_in
 from rendapil.payloads.fields import WEB, Place, field_of
+from rendapil.payloads.followed import BY_FORM, Ends, Followed, form_of
 from rendapil.payloads.kept import (
     ALIAS,
     APPS,
@@ -85,6 +86,9 @@ BY_PORTS = ("TLS", "QUIC")
 
 METHODS = (b"GET ", b"POST", b"HEAD", b"PUT ", b"CONN", b"PROP")
 UPNP = b"schemas-upnp-org"
+NOTED = 1000
+"""The most frames of a place whose addresses are held against the connections that follow."""
+
 LATEST = 8
 """The most finds of the last frame that are kept for its line or comment."""
 
@@ -118,6 +122,7 @@ class Scan:
         self._unnamed = Trials()
         self._flows: dict[bytes, Flow] = {}
         self._opened: dict[bytes, None] = {}
+        self._followed = Followed()
         self._blocks: tuple[dict[bytes, set[bytes]], ...] = ({}, {})
         self._ranked: tuple[list[bytes], ...] = ()  # these blocks by side, those with the most hosts first, as long as no host comes
         self._aims: dict[tuple[int, tuple[bytes, ...]], Aim] = {}
@@ -145,11 +150,13 @@ class Scan:
         else:
             return
         payload = whole[at : whole[2] << 8 | whole[3]]
-        if not payload and (protocol != TCP or whole[head + 13] & 18 != 2 or len(self._opened) >= FLOWS):
+        if not payload and (protocol != TCP or whole[head + 13] & 18 != 2):
             return
         key = came[12:20] + whole[head : head + 4] + whole[9:10]
         if not payload:
-            self._opened[key] = None
+            self._followed.open(key[:4], sent[0][16:20] if sent else key[4:8], key[10:12])
+            if len(self._opened) < FLOWS:
+                self._opened[key] = None
             return
         flow = self._flows.get(key) or self._begun(key, side, payload, sent)
         flow.frames += 1
@@ -188,6 +195,8 @@ class Scan:
             of, server = (other.app.of, other.server) if other.app.of.name and not (of.name and of.weight == HIDDEN) else (of, other.server)
         elif (protocol, server) not in BY_PORT and (key in self._opened or back in self._opened):
             server = far_port if key in self._opened else port
+        if protocol == UDP and not other:
+            self._followed.open(key[:4], back[:4], key[10:12])
         app = self._app(of, protocol, server)
         if len(self._flows) >= FLOWS:
             for old in list(self._flows)[: FLOWS // 2]:
@@ -286,7 +295,7 @@ class Scan:
                 yield one
 
     def _note(self, flow: Flow, key: bytes, number: int, side: int, payload: bytes, finds: list[Find], image: bytes) -> None:
-        """Notes what was found in a frame."""
+        """Notes what was found in a frame that went on to this address."""
         plain = [(one.at, one.end) for one in finds if one.form in PLAIN]
         told: dict[tuple[App, str], None] = {}
         for one in finds:
@@ -298,6 +307,8 @@ class Scan:
             if one.is_vague and meant.role not in (ITSELF, PEER) or one.form not in PLAIN and any(at <= one.at < end for at, end in plain):
                 continue
             app, found = self._use(flow, payload, one, meant)
+            if not found and app.of.weight == UNSURE and meant.role in (ITSELF, HOST, PRIVATE):
+                found = form_of(payload, one, meant.role, Ends(int.from_bytes(key[8:10]), int.from_bytes(key[10:12])))
             weight = found.weight if found else default_of(app.of, meant.role)
             site = self._site(app, flow, key, side, number, payload, one._replace(field=found), meant, weight)
             if site:
@@ -308,6 +319,9 @@ class Scan:
                     site.values.add(one.address)
                 if len(site.flows) < VALUES:
                     site.flows.add(key)
+                is_known = site.is_followed or weight == BREAKS and one.form in PLAIN and found not in BY_FORM
+                if meant.role in (ITSELF, HOST) and not is_known and site.frames <= NOTED:
+                    self._followed.tell(image, app, site, payload, one)
             if one.form in PLAIN:
                 told[app, weight] = None
                 if len(self.latest) < LATEST:
@@ -437,6 +451,10 @@ def row_of(app: App) -> Row | None:
 
 def degree_of(app: App, site: Site) -> str:
     """How sure it is that a place has addresses, or nothing where chance may have put them there."""
+    if site.is_followed:
+        return SURE
+    if site.use in BY_FORM:
+        return LIKELY
     if site.form in PLAIN:
         return SURE
     if site.form == LITTLE and len(site.values) < 2:
@@ -475,19 +493,23 @@ def plural(count: int, name: str) -> str:
 
 MEANS = {
     BREAKS: "others connect to what it says",
-    UNSURE: "no known application",
+    UNSURE: "nobody knows whether others connect to it",
     TELLS: "the address is told, and seldom used",
     COPES: "the protocol expects a NAT",
     HIDDEN: "it can't be read",
 }
 """What an address in a payload does."""
 
+NOBODY = "no known application"
+
 REFUSED = {
+    2: ("IGMP", "no multicast over the gateway"),
     4: ("IP in IP", "another tunnel, over UDP or TCP"),
     33: ("DCCP", "DCCP over UDP (RFC 6773)"),
     41: ("IPv6 in IPv4", "another tunnel, over UDP or TCP"),
     46: ("RSVP", "no reservations over the gateway"),
-    47: ("GRE", "end the tunnel before the gateway, or another one over UDP or TCP"),
+    47: ("GRE", "end the tunnel before the gateway, or another one over UDP or TCP. A mirror (ERSPAN): capture at its source"),
+    54: ("NHRP", "end the tunnel before the gateway"),
     50: ("ESP of IPsec", "NAT traversal (UDP 4500), or end the tunnel before the gateway"),
     51: ("AH of IPsec", "ESP with NAT traversal (UDP 4500)"),
     88: ("EIGRP", "a static route to the pool in each realm"),
@@ -497,11 +519,13 @@ REFUSED = {
     103: ("PIM", "no multicast over the gateway"),
     112: ("VRRP", "routers of a group in one realm"),
     108: ("IPComp", "no compression of packets"),
+    113: ("PGM", "no multicast over the gateway"),
     115: ("L2TP without UDP", "L2TP over UDP"),
     132: ("SCTP", "SCTP over UDP (RFC 6951), or TCP"),
     136: ("UDP-Lite", "UDP"),
     137: ("MPLS in IP", "MPLS over UDP (RFC 7510)"),
     139: ("HIP", "HIP over UDP (RFC 9028)"),
+    240: ("pfsync", "both firewalls in one realm"),
 }
 """Protocols that the gateway refuses, by number: their name, and what helps."""
 
@@ -544,7 +568,7 @@ def told_row(scan: Scan, row: Row) -> Told:
     app, first = row.app, row.sites[0]
     is_plain = all(site.form in PLAIN for site in row.sites)
     says = first.use.says if first.use else app.of.carries if row.weight == app.of.weight else ""
-    means = (MEANS[row.weight] if app.of.name else MEANS[UNSURE]) + (f": {says}" if says else "")
+    means = (MEANS[row.weight] if app.of.name or row.weight == BREAKS else NOBODY) + (f": {says}" if says else "")
     chance = None if is_plain else float(f"{row.chance:.2g}")
     examples = [example_of(site, scan.is_before) for site in row.sites[:EXAMPLES]]
     todo = first.use.todo if first.use and first.use.todo else app.of.todo
@@ -558,17 +582,24 @@ def refused_row(protocol: int, count: int) -> Told:
     return Told(name, BREAKS, SURE, "the gateway refuses it", count, 0, count, None, ["it doesn't pass: only ICMP, TCP and UDP do"], todo)
 
 
-def summary_of(scan: Scan, rows: list[Told]) -> str:
-    """How much was looked at, and of how many applications nothing is told."""
+def summary_of(scan: Scan, rows: list[Told], cut: int = 0) -> str:
+    """How much was looked at, and of how many applications nothing is told. So many frames were cut by the capture."""
     if not scan.scanned:
-        return "No payload was looked at" + ("" if rows else ", so nothing is told of applications")
+        return "No payload passed, so none was looked at"
+    if cut:
+        return f"{said_of(scan, rows)}. {plural(cut, 'frame')} {'was' if cut == 1 else 'were'} cut by the capture: what stood behind the cut can't be judged"
+    return said_of(scan, rows)
+
+
+def said_of(scan: Scan, rows: list[Told]) -> str:
+    """The same of what was looked at."""
     looked = f"{plural(scan.scanned, 'payload')} of {plural(len(scan.apps), 'application')} {'was' if scan.scanned == 1 else 'were'} looked at"
     if not rows:
         return f"{looked}, and none was found"
     return f"{looked}. Nothing is told of {len(scan.apps) - len(rows):,} of them" if len(scan.apps) > len(rows) else looked
 
 
-def lines_of(scan: Scan) -> Iterator[str]:
+def lines_of(scan: Scan, cut: int = 0) -> Iterator[str]:
     """The same for an operator."""
     rows = told_rows(scan)
     yield "Addresses in payloads that the gateway leaves alone, by application"
@@ -580,4 +611,4 @@ def lines_of(scan: Scan) -> Iterator[str]:
         yield from (f"{'':17}{one}" for one in row.examples)
         if row.weight != COPES and row.todo:
             yield f"{'':17}To do: {row.todo}"
-    yield summary_of(scan, rows)
+    yield summary_of(scan, rows, cut)

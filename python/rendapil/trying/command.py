@@ -144,7 +144,7 @@ def try_it(words: argparse.Namespace, capture: str) -> int:
     with tempfile.NamedTemporaryFile("w", prefix="rendapil-", encoding="utf-8") as notes:
         json.dump(notes_of(realms, verdicts, lost, shlex.join([called(), "try", *sys.argv[1:]])), notes)
         notes.flush()
-        return shown_by_explain(words, files, run, notes.name) or int(not verdicts["pass"])
+        return shown_by_explain(words, files, run, notes.name) or int(not verdicts["pass"] and verdicts.total() > 0)
 
 
 def shown_by_explain(words: argparse.Namespace, files: dict[str, str], run: list[str], notes: str) -> int:
@@ -159,13 +159,11 @@ def shown_by_explain(words: argparse.Namespace, files: dict[str, str], run: list
 
 
 def refuse_unfit(capture: str, name: str) -> None:
-    """Ends where a capture is packed in a way that has to be undone first, or is one that `explain` wrote."""
+    """Ends where a capture is packed in a way that has to be undone first, or is what a try wrote of both sides."""
     with open(capture, "rb") as file:
         head = file.read(256)
     if head.startswith(PCAPNG) and BY_EXPLAIN in head:
-        raise Fault(
-            f"{shown(name)} was written by a try or by explain, and has each frame as it came and as it went: give the capture that it was made of"
-        )
+        raise Fault(f"{shown(name)} has both sides of an earlier run, each frame twice: give the capture that this was made of")
     for begin, (what, command) in PACKED.items():
         if head.startswith(begin) and what != "gzip":
             raise Fault(f"{shown(name)} is packed by {what}. Unpack it: {command} {quoted(name)} | {called()} try -")

@@ -4,8 +4,9 @@ from collections import Counter
 from rendapil.numbers import TCP, UDP
 from rendapil.packet import Packet
 
-RECENT, PAIRS, FEW = 2048, 20_000, 8
-"""How many frames are looked back for the same one, how many connections are followed, and how many frames are too few to be told."""
+RECENT, PAIRS, FEW, SAMPLE = 2048, 20_000, 8, 120
+"""How many frames are looked back for the same one, how many connections are followed, how many frames are too few to be told, and how many octets of a
+datagram that isn't TCP's are compared: those of a tunnel have the headers of the inner one in front."""
 
 TUNNELS = {(UDP, 4789): "VXLAN", (UDP, 8472): "VXLAN", (UDP, 6081): "GENEVE", (UDP, 2152): "GTP", (UDP, 3544): "Teredo", (UDP, 1701): "L2TP"}
 PROTOCOLS = {4: "IP in IP", 41: "IPv6 in IPv4", 47: "GRE", 94: "IP in IP"}
@@ -24,7 +25,7 @@ class Oddities:
     def take(self, packet: Packet) -> None:
         """Takes a datagram."""
         octets, head, protocol = packet.octets, packet.head, packet.protocol
-        self.count(bytes(octets[: head + 16] + octets[-8:]), head, protocol == TCP and packet.total > head + 20)
+        self.count(bytes(octets[: head + SAMPLE] + octets[-8:]), head, protocol == TCP and packet.total > head + 20)
         if protocol != TCP:
             if name := self._tunnel(packet):
                 self.tunnels[name] += 1
@@ -36,12 +37,12 @@ class Oddities:
                 self._note_way(ends[:4] + ends[8:10], ends[4:8] + ends[10:])
 
     def count(self, octets: bytes, head: int, has_payload: bool) -> None:
-        """Takes a datagram, of which its header, 16 octets behind it and the last 8 are enough, and counts it where the same one was there shortly before.
-        A segment without payload may come again if it has no number."""
+        """Takes a datagram, of which its header, SAMPLE octets behind it and the last 8 are enough, and counts it where the same one was there shortly
+        before. A segment of TCP is known by 16. One without payload may come again if it has no number, and so may any other datagram."""
         self.looked_at += 1
         if not has_payload and octets[4:6] == b"\0\0":
             return
-        key = hash(octets[2:8] + octets[9:10] + octets[12 : head + 16] + octets[-8:])
+        key = hash(octets[2:8] + octets[9:10] + octets[12 : head + (16 if octets[9] == TCP else SAMPLE)] + octets[-8:])
         self.doubled += key in self._recent
         self._recent[key] = 1
         if len(self._recent) > 2 * RECENT:
@@ -81,7 +82,9 @@ class Oddities:
         if self._ways and self.is_one_way:
             found.append("most connections of TCP have one direction alone: the answers are missing. Capture where both directions pass")
         for name, count in self.tunnels.most_common():
+            is_mirror = name.startswith("ERSPAN")
+            what, todo = ("a mirror", ". Capture at its source, or take the mirrored frames out") if is_mirror else ("a tunnel", "")
             found.append(
-                f"{count} {'frame is' if count == 1 else 'frames are'} of a tunnel, {name}: only its two ends are looked at, and the hosts inside it aren't seen"
+                f"{count} {'frame is' if count == 1 else 'frames are'} of {what}, {name}: only its two ends are looked at, and the hosts inside it aren't seen{todo}"
             )
         return found

@@ -82,6 +82,8 @@ def tell_verdicts(verdicts: Counter[str], lost: int) -> None:
     """How many frames passed, and why the others didn't."""
     means = verdicts_of()
     total, passed, joined = verdicts.total(), verdicts["pass"], verdicts["held"] - lost
+    if total and not passed:
+        print("\nNOTHING PASSES: the lines below say why. So nothing can be told of what works behind the gateway.")
     print(
         f"\n{passed} of {counted(total, 'frame')} that {'goes' if total == 1 else 'go'} to the gateway pass{'es' if passed == 1 else ''}"
         + (f", and {joined} went out as parts of these." if joined else ".")
@@ -97,18 +99,11 @@ def tell_verdicts(verdicts: Counter[str], lost: int) -> None:
             continue
         said = f"{means[name].means}. What to do: {means[name].todo}" if name in means else ""
         print(f"{count:8}  {name}{': ' + said if said else ''}")
-    if total and not passed:
-        print("\nNo frame passes: nothing in this capture works through the gateway.")
 
 
 def limits(verdicts: Counter[str], realms: TwoRealms) -> list[str]:
     """Where an open loop bites, and what helps."""
     found = []
-    if realms.filled:
-        found.append(
-            f"{counted(realms.filled, 'frame')} {'was' if realms.filled == 1 else 'were'} cut by the capture, so nobody can tell which addresses stood in what is "
-            "missing. Capture whole frames, by tcpdump -s 0."
-        )
     stuck, late = verdicts["Gap"] + verdicts["AckAhead"], verdicts["NoSession"]
     if 10 * stuck > verdicts.total():
         why = (
@@ -184,6 +179,7 @@ def notes_of(realms: TwoRealms, verdicts: Counter[str], lost: int, command: str)
     return Notes(
         command=shown(command),
         went=verdicts.total(),
+        cut=realms.filled,
         left_out=left_out,
         changed=[one for one in changed if one[0]],
         lines=realms.lines,
