@@ -18,7 +18,7 @@ from rendapil.dns import named_in
 from rendapil.document import Document, RealmTable, StaticTable
 from rendapil.files import RAW_IP, Record, bare_head, record_head, shown
 from rendapil.numbers import CHANGED, DNS_PORT, FTP_PORT, SIDES, SYN, TCP, UDP
-from rendapil.packet import ICMP, Packet, adjusted, is_host, total_of
+from rendapil.packet import ICMP, Packet, adjusted, is_host, rest_of, total_of
 from rendapil.settings_text import pool_table, same_line, static_table
 from rendapil.streams import TRACKED
 from rendapil.trying.needs import Needs
@@ -106,8 +106,13 @@ def plainly_moved(octets: bytes, way: Way, is_mended: bool) -> bytes:
     if is_mended:
         # Both sums are right where the header's octets and the others add up to nothing, with what the pseudo header has. 0xFFFF is another 0.
         pseudo = way.old + source + protocol + size - 20
-        whole = int.from_bytes(octets) << 8 * (size & 1)
-        if of_header == 0xFFFF or int.from_bytes(octets[:20]) % 0xFFFF or (whole + pseudo) % 0xFFFF or of_payload == 0xFFFF and protocol == TCP:
+        if (
+            of_header == 0xFFFF
+            or int.from_bytes(octets[:20]) % 0xFFFF
+            or (rest_of(octets) + pseudo) % 0xFFFF
+            or of_payload == 0xFFFF
+            and protocol == TCP
+        ):
             return b""
     header_sum, payload_sum = adjusted(of_header, way.old, way.new), adjusted(of_payload, way.old, way.new)
     if protocol == UDP:
