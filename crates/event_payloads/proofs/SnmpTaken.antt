@@ -48,7 +48,8 @@ first_by bad empty long = first_that_holds ((bad, BadSnmp) ∷ (empty, PoolEmpty
 
 -- the first test that holds, of a message
 first_is : {S : Type 0} (rules : SessionRules S) (live : World S) (side : Side) (d : Datagram) (way : Way) (long : Bool) → IsWayOf live side d way
-    → is_none (message (carried d)) ≡ false → long ≡ nat_lt MOST_CARRIED (length (management_after (table_after rules live side live.clock d (Whole Snmp)) side d))
+    → is_none (message (carried d)) ≡ false
+    → long ≡ nat_lt MOST_CARRIED (length (management_after (table_after rules live side live.clock d (Whole Snmp)) side d))
     → first_by false (is_empty way.of_source) long ≡ first_that_holds
     (kind_tests rules live side live.clock d (Whole Snmp)
     ++ (is_pool_empty rules live side d (Whole Snmp), PoolEmpty) ∷ late_tests rules live side live.clock d (Whole Snmp))
@@ -58,7 +59,8 @@ first_is rules live side d way long w good is =
     ∙ ap (first_by (is_none (message (carried d))) (is_pool_empty rules live side d (Whole Snmp))) is
 
 pub message_empty : {S : Type 0} (rules : SessionRules S) (live : World S) (side : Side) (d : Datagram) (way : Way) (table : Bindings)
-    (sent : List (List ℕ)) → IsWayOf live side d way → is_none (message (carried d)) ≡ false → is_empty way.of_source ≡ true → table ≡ live.table → sent ≡ []
+    (sent : List (List ℕ)) → IsWayOf live side d way → is_none (message (carried d)) ≡ false → is_empty way.of_source ≡ true
+    → table ≡ live.table → sent ≡ []
     → IsTaken rules live side d (Whole Snmp) (Some PoolEmpty) table sent
 message_empty rules live side d way table sent w good empty t s =
     let long = nat_lt MOST_CARRIED (length (management_after (table_after rules live side live.clock d (Whole Snmp)) side d)) in
@@ -211,8 +213,8 @@ message_basic rules live side d way table sent w good room none few t s =
     }
 
 pub taken_basic : {S : Type 0} (rules : SessionRules S) (live : World S) (side : Side) (d : Datagram) (way : Way) (old : Bindings) (payload : List ℕ)
-    (table : Bindings) (sent : List (List ℕ)) → live.table ≡ old → payload ≡ carried d → IsWayOf live side d way → is_none (message (carried d)) ≡ false
-    → is_empty way.of_source ≡ false → old.oids ≡ [] → length payload ≤ 65507
+    (table : Bindings) (sent : List (List ℕ)) → live.table ≡ old → payload ≡ carried d → IsWayOf live side d way
+    → is_none (message (carried d)) ≡ false → is_empty way.of_source ≡ false → old.oids ≡ [] → length payload ≤ 65507
     → table ≡ after_uses old (header_uses way UDP_TIMEOUT)
     → sent ≡ rebuilt d (image_by way.of_source way.source).0 (image_by way.of_destination way.destination).0
     (oid_renamed (number_seen table way.side) [] payload) ∷ [] → IsTaken rules live side d (Whole Snmp) None table sent

@@ -57,7 +57,8 @@ pub record AreUsed {S : Type 0} (rules : SessionRules S) (live : World S) (side 
 pub passed_is : {S A : Type 0} (rules : SessionRules S) (tells : Tells S A) (live : World S) (side : Side) (d : Datagram) (way : Way)
     (taker : Option (Tracked S)) (table : Bindings) (connections : List (Connection (Tracked S))) (pending : ℕ) (sent : A) →
     AreUsed rules live side d way table → taker_in rules live side live.clock d ≡ taker → None ≡ stream_refusal rules live side d →
-    connections ≡ changed live.connections (place_of (key_in live.table side d) live.connections) (connection_after rules (image_of rules live side d) live side live.clock d taker) →
+    connections ≡ changed live.connections (place_of (key_in live.table side d) live.connections)
+    (connection_after rules (image_of rules live side d) live side live.clock d taker) →
     pending ≡ max live.pending (pending_by rules (session_in (connection_after rules (image_of rules live side d) live side live.clock d taker))) →
     sent ≡ tells.segment (image_of rules live side d) side d (image_by way.of_source way.source).0
     (image_by way.of_destination way.destination).0 taker →

@@ -76,8 +76,12 @@ with_connection_as {T = T} h a b r live side d table c =
     (option_map (connection_as h) c) ≡ map (connection_as h) mine =
     ap (λ place. changed (map (connection_as h) live.connections) place (option_map (connection_as h) c)) (place_of_as h key live.connections)
     ∙ changed_as h live.connections (place_of key live.connections) c in
-    ap (λ (xs : List (Connection (Tracked T))). record
-    { clock = live.clock; table = table; connections = xs; pending = max live.pending (pending_by b (session_in (option_map (connection_as h) c))) }) all
+    ap (λ (xs : List (Connection (Tracked T))). record {
+      clock = live.clock;
+      table = table;
+      connections = xs;
+      pending = max live.pending (pending_by b (session_in (option_map (connection_as h) c)));
+    }) all
     ∙ ap (λ (n : ℕ). record
     { clock = live.clock; table = table; connections = map (connection_as h) mine; pending = max live.pending n })
     (pending_as h a b r c)

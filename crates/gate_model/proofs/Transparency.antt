@@ -496,7 +496,8 @@ comes_back {S = S} rules w e between r lawful v reply before less = record {
     to = called_is (table_by rules (fold (next rules) (next rules w e) between) r) r.side (destination_of (datagram_in r))
         (source_of (datagram_in e)) (destination_seen (table_by rules (fold (next rules) (next rules w e) between) r) lawful_r kept)
 
-    plain : IsPlainKind (kind_of (datagram_in r)) → verdict rules (fold (next rules) (next rules w e) between) r ≡ verdict_of (first_that_holds (own_tests r))
+    plain : IsPlainKind (kind_of (datagram_in r))
+        → verdict rules (fold (next rules) (next rules w e) between) r ≡ verdict_of (first_that_holds (own_tests r))
     plain kind = plain_verdict rules (fold (next rules) (next rules w e) between) r kind addresses room
 
 -- ## ICMP errors

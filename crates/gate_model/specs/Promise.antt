@@ -90,8 +90,9 @@ pub record SegmentIs (w : World WholeSession) (v : World RememberedSession) (e :
   -- what holds of each session holds of this one afterwards, also where it ends with that;
   pub session : SessionIs (taken_by remembering_rules v e t)
   -- each address that its lists named before has kept its image;
-  pub images : (host : Host) (number : ℕ) → let listed = remembering_rules.listed host t.session in is_listed listed number ≡ true
-      → image_in (remembering_rules.listed host (taken_by remembering_rules v e t).session) number ≡ image_in listed number
+  pub images : (host : Host) (number : ℕ) → let old = remembering_rules.listed host t.session in
+      let new = remembering_rules.listed host (taken_by remembering_rules v e t).session in
+      is_listed old number ≡ true → image_in new number ≡ image_in old number
   -- and what goes out for a segment without SYN and RST brings what is lacking of its sender's octets, also where the session ends with that
   pub going : HasDataSegment e → GoesOnBy v e t
 

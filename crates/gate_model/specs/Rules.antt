@@ -33,8 +33,8 @@ pub record SessionRules (S : Type 0) : Type 0 where
 -- sessions over whole lists
 abbrev pub whole_rules : SessionRules WholeSession
 whole_rules = record {
-  made = λ port pair initial mss. let lists = lists_at port in
-      record { lists = lists; session = session_made (meaning_by lists pair Client) (meaning_by lists pair Server) initial mss };
+  made = λ port pair initial mss. let meaning = meaning_by (lists_at port) pair in
+      record { lists = lists_at port; session = session_made (meaning Client) (meaning Server) initial mss };
   refusal = λ from x segment. segment_refusal from x.session segment;
   units = whole_units;
   listed = λ host x. entries_by x.lists host;

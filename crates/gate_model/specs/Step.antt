@@ -28,8 +28,8 @@ taker_in rules live side moment d = taker_by rules (table_after rules live side 
 -- its connection is another one afterwards
 abbrev pub with_connection : {S : Type 0} → SessionRules S → World S → Side → Datagram → Bindings → Option (Connection (Tracked S)) → World S
 with_connection rules live side d table c =
-    let connections = changed live.connections (place_of (key_in live.table side d) live.connections) c in
-    record live { table = table; connections = connections; pending = max live.pending (pending_by rules (session_in c)) }
+    let all = changed live.connections (place_of (key_in live.table side d) live.connections) c in
+    record live { table = table; connections = all; pending = max live.pending (pending_by rules (session_in c)) }
 
 -- what a datagram of a kind that passes leaves of what lives
 abbrev pub after_kind : {S : Type 0} → SessionRules S → World S → Side → ℕ → Datagram → Kind → World S

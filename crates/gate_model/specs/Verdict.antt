@@ -12,7 +12,7 @@ use Rattle.gate_settings.specs.Prelude.{is_in_same}
 use Rattle.binding_table.specs.Prelude.{Bindings, in_pool, free, seen, Use, needed, after_uses, image_after}
 use Rattle.icmp_errors.specs.Inner.{is_inner, inner_fields}
 use Rattle.ipv4_frames.specs.Ipv4.{Datagram}
-use Rattle.gate_model.specs.Frame.{Payload, Udp, Echo, Error, Dns, Snmp, Kind, Whole, Stream, datagram_in, header_tests, datagram_tests, transport_tests, kind_of}
+use Rattle.gate_model.specs.Frame.{Payload, Echo, Error, Dns, Snmp, Kind, Whole, Stream, datagram_in, header_tests, datagram_tests, transport_tests, kind_of}
 use Rattle.gate_model.specs.Inner.{inside, is_inner_unbound}
 use Rattle.gate_model.specs.Management.{management_after}
 use Rattle.gate_model.specs.Names.{carried, message_in, named_in, has_unbound}
@@ -99,7 +99,7 @@ kind_tests rules live side moment d Stream =
     ∷ refusal_tests (session_refusal rules side d taker)
     ++ (unit_tests rules (image_in rules live side moment d) live.table side d taker ++ (is_full live.connections found d, SessionsFull) ∷ [])
 
--- of what goes on in place of a payload, by the bindings after its uses: longer than a datagram holds behind both headers
+-- of what goes on in place of a payload, by the bindings after its uses: a message of SNMP must fit behind both headers
 abbrev pub image_tests : Bindings → Side → Datagram → Payload → List (Bool × Refusal)
 image_tests table side d Snmp = (nat_lt MOST_CARRIED (length (management_after table side d)), SnmpTooLong) ∷ []
 image_tests table side d _ = []

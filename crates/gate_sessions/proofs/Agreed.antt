@@ -151,7 +151,8 @@ next_at image lists pair f h s g st v =
 
 pub out_at : (image : Addr → Option Addr) (lists : Option Lists) (pair : Pair) (f : Host) (h : CompactState) (s : Session) (g : Segment)
     → StandsFor (record { lists = lists; session = s }) (record { pair = pair; lists = lists; kept = h }) → segment_refusal f s g ≡ None
-    → compact_rules.out image f (record { pair = pair; lists = lists; kept = h }) g ≡ whole_rules.out image f (record { lists = lists; session = s }) g
+    → compact_rules.out image f (record { pair = pair; lists = lists; kept = h }) g
+    ≡ whole_rules.out image f (record { lists = lists; session = s }) g
 out_at image lists pair f h s g st v =
     let es = entered image (entries_by lists f) (addresses_in (units_by lists (completed (own f s) g))) in
     let after = lists_with image lists f (units_by lists (completed (own f s) g)) in

@@ -102,7 +102,7 @@ kind_short live side moment d (Whole Dns) p h options =
 kind_short live side moment d (Whole Snmp) p h options =
     let table = table_after whole_rules live side moment d (Whole Snmp) in
     let message = management_after table side d in
-    let few = management_short table side d (none_head {test = (nat_lt MOST_CARRIED (length (management_after table side d)), SnmpTooLong)} {more = []} p.late) in (
+    let few = management_short table side d (none_head {test = (nat_lt MOST_CARRIED (length message), SnmpTooLong)} {more = []} p.late) in (
       renamed_short d (with_payload d message).payload (called table side (source_of d)).0 (called table side (destination_of d)).0 h.header
           (rebuilt_short d message few),
       tt,
