@@ -22,10 +22,10 @@ use Rattle.snmp_oids.proofs.Lengths.{message_length}
 use Rattle.snmp_oids.proofs.Messages.{no_rule}
 use Rattle.verdicts.specs.Prelude.{first_that_holds, unless_refused}
 use Rattle.twice_translate.specs.Renamed.{rebuilt}
-use Rattle.gate_model.specs.Prelude.{Whole, Snmp, number_seen, management_after, is_snmp_too_long, carried, kind_tests, late_tests}
+use Rattle.gate_model.specs.Prelude.{Whole, Snmp, number_seen, management_after, carried, kind_tests, late_tests}
 use Rattle.gate_model.specs.Prelude.{is_pool_empty, table_after, uses_until, World, source_of, destination_of, called, SessionRules}
+use Rattle.gate_model.specs.declared.TheConstants.{MOST_CARRIED}
 use Rattle.gate_model.specs.declared.timeouts.TheConstants.{UDP_TIMEOUT}
-use Rattle.gate_model.specs.Management.{is_bad_snmp}
 use Rattle.gate_model.proofs.ListsKept.{known_unbound}
 use Rattle.event_payloads.specs.Prelude.{IsTaken, IsWayOf, image_by, is_empty, header_uses}
 use Rattle.event_payloads.specs.declared.addresses.Way.{Way}
@@ -39,7 +39,7 @@ told_good None told = absurd (cc)
 told_good (Some found) told = refl
 
 pub good_is : (d : Datagram) (payload : List ℕ) (kind : Option SnmpKind) (none : Bool) → payload ≡ carried d → kind ≡ kind_of payload
-    → is_some kind ≡ not none → none ≡ false → is_bad_snmp d ≡ false
+    → is_some kind ≡ not none → none ≡ false → is_none (message (carried d)) ≡ false
 good_is d payload kind none same told tested some =
     told_good (message (carried d)) (ap (λ (xs : List ℕ). is_some (kind_of xs)) (sym same) ∙ ap is_some (sym told) ∙ tested ∙ ap not some)
 
@@ -48,20 +48,22 @@ first_by bad empty long = first_that_holds ((bad, BadSnmp) ∷ (empty, PoolEmpty
 
 -- the first test that holds, of a message
 first_is : {S : Type 0} (rules : SessionRules S) (live : World S) (side : Side) (d : Datagram) (way : Way) (long : Bool) → IsWayOf live side d way
-    → is_bad_snmp d ≡ false → long ≡ is_snmp_too_long (table_after rules live side live.clock d (Whole Snmp)) side d
+    → is_none (message (carried d)) ≡ false
+    → long ≡ nat_lt MOST_CARRIED (length (management_after (table_after rules live side live.clock d (Whole Snmp)) side d))
     → first_by false (is_empty way.of_source) long ≡ first_that_holds
     (kind_tests rules live side live.clock d (Whole Snmp)
     ++ (is_pool_empty rules live side d (Whole Snmp), PoolEmpty) ∷ late_tests rules live side live.clock d (Whole Snmp))
 first_is rules live side d way long w good is =
     ap (λ (b : Bool). first_by b (is_empty way.of_source) long) (sym good)
-    ∙ ap (λ (b : Bool). first_by (is_bad_snmp d) b long) (empty_is rules live side d way w)
-    ∙ ap (first_by (is_bad_snmp d) (is_pool_empty rules live side d (Whole Snmp))) is
+    ∙ ap (λ (b : Bool). first_by (is_none (message (carried d))) b long) (empty_is rules live side d way w)
+    ∙ ap (first_by (is_none (message (carried d))) (is_pool_empty rules live side d (Whole Snmp))) is
 
 pub message_empty : {S : Type 0} (rules : SessionRules S) (live : World S) (side : Side) (d : Datagram) (way : Way) (table : Bindings)
-    (sent : List (List ℕ)) → IsWayOf live side d way → is_bad_snmp d ≡ false → is_empty way.of_source ≡ true → table ≡ live.table → sent ≡ []
+    (sent : List (List ℕ)) → IsWayOf live side d way → is_none (message (carried d)) ≡ false → is_empty way.of_source ≡ true
+    → table ≡ live.table → sent ≡ []
     → IsTaken rules live side d (Whole Snmp) (Some PoolEmpty) table sent
 message_empty rules live side d way table sent w good empty t s =
-    let long = is_snmp_too_long (table_after rules live side live.clock d (Whole Snmp)) side d in
+    let long = nat_lt MOST_CARRIED (length (management_after (table_after rules live side live.clock d (Whole Snmp)) side d)) in
     record {
       answer = ap (λ (b : Bool). first_by false b long) (sym empty) ∙ first_is rules live side d way long w good refl;
       bound = t;
@@ -136,7 +138,7 @@ planned_is rules live side d way w room =
 
 -- a message that the rules rename
 pub message_by_rules : {S : Type 0} (rules : SessionRules S) (live : World S) (side : Side) (d : Datagram) (way : Way) (r : Option Refusal)
-    (table : Bindings) (sent : List (List ℕ)) → IsWayOf live side d way → is_bad_snmp d ≡ false → is_empty way.of_source ≡ false
+    (table : Bindings) (sent : List (List ℕ)) → IsWayOf live side d way → is_none (message (carried d)) ≡ false → is_empty way.of_source ≡ false
     → r ≡ first_that_holds ((nat_lt 65507 (length (oid_renamed (number_planned live.table way) live.table.oids (carried d))), SnmpTooLong) ∷ [])
     → table ≡ unless_refused r (after_uses live.table (header_uses way UDP_TIMEOUT)) live.table
     → sent ≡ unless_refused r
@@ -163,7 +165,7 @@ message_by_rules rules live side d way r table sent w good room e t s =
 -- the same over an equal table and payload
 pub taken_by_rules : {S : Type 0} (rules : SessionRules S) (live : World S) (side : Side) (d : Datagram) (way : Way) (old : Bindings)
     (payload : List ℕ) (r : Option Refusal) (table : Bindings) (sent : List (List ℕ)) → live.table ≡ old → payload ≡ carried d
-    → IsWayOf live side d way → is_bad_snmp d ≡ false → is_empty way.of_source ≡ false
+    → IsWayOf live side d way → is_none (message (carried d)) ≡ false → is_empty way.of_source ≡ false
     → r ≡ first_that_holds ((nat_lt 65507 (length (oid_renamed (number_planned old way) old.oids payload)), SnmpTooLong) ∷ [])
     → table ≡ unless_refused r (after_uses old (header_uses way UDP_TIMEOUT)) old
     → sent ≡ unless_refused r
@@ -181,7 +183,7 @@ taken_by_rules rules live side d way old payload r table sent same p w good room
 
 -- one where there is no rule
 pub message_basic : {S : Type 0} (rules : SessionRules S) (live : World S) (side : Side) (d : Datagram) (way : Way) (table : Bindings)
-    (sent : List (List ℕ)) → IsWayOf live side d way → is_bad_snmp d ≡ false → is_empty way.of_source ≡ false → live.table.oids ≡ []
+    (sent : List (List ℕ)) → IsWayOf live side d way → is_none (message (carried d)) ≡ false → is_empty way.of_source ≡ false → live.table.oids ≡ []
     → length (carried d) ≤ 65507
     → table ≡ after_uses live.table (header_uses way UDP_TIMEOUT)
     → sent ≡ rebuilt d (image_by way.of_source way.source).0 (image_by way.of_destination way.destination).0
@@ -196,7 +198,7 @@ message_basic rules live side d way table sent w good room none few t s =
     ap (λ (x : Bindings). oid_renamed (number_seen x way.side) [] (carried d)) bound
     ∙ ap (λ (x : Side). oid_renamed (number_seen after x) [] (carried d)) w.side_is
     ∙ ap (λ (x : List OidRule). oid_renamed (number_seen after side) x (carried d)) (sym none_left) in
-    let short : is_snmp_too_long after side d ≡ false =
+    let short : nat_lt MOST_CARRIED (length (management_after after side d)) ≡ false =
     ap (λ (x : List OidRule). nat_lt 65507 (length (oid_renamed (number_seen after side) x (carried d)))) none_left
     ∙ ap (nat_lt 65507) (message_length (number_seen after side) (carried d))
     ∙ le-ltb 65507 (length (carried d)) few in
@@ -211,8 +213,8 @@ message_basic rules live side d way table sent w good room none few t s =
     }
 
 pub taken_basic : {S : Type 0} (rules : SessionRules S) (live : World S) (side : Side) (d : Datagram) (way : Way) (old : Bindings) (payload : List ℕ)
-    (table : Bindings) (sent : List (List ℕ)) → live.table ≡ old → payload ≡ carried d → IsWayOf live side d way → is_bad_snmp d ≡ false
-    → is_empty way.of_source ≡ false → old.oids ≡ [] → length payload ≤ 65507
+    (table : Bindings) (sent : List (List ℕ)) → live.table ≡ old → payload ≡ carried d → IsWayOf live side d way
+    → is_none (message (carried d)) ≡ false → is_empty way.of_source ≡ false → old.oids ≡ [] → length payload ≤ 65507
     → table ≡ after_uses old (header_uses way UDP_TIMEOUT)
     → sent ≡ rebuilt d (image_by way.of_source way.source).0 (image_by way.of_destination way.destination).0
     (oid_renamed (number_seen table way.side) [] payload) ∷ [] → IsTaken rules live side d (Whole Snmp) None table sent

@@ -16,8 +16,8 @@ use Rattle.tcp_tracker.specs.declared.connection.Connection.{Connection}
 use Rattle.twice_translate.specs.Renamed.{datagram_of, renamed}
 use Rattle.verdicts.specs.Prelude.{first_that_holds, unless_refused}
 use Rattle.gate_model.specs.Prelude.{Stream, is_tracked_port, taker_in, with_connection, tcp_of, key_in, found_in, session_in, begins, is_opening}
-use Rattle.gate_model.specs.Prelude.{pair_in, made_by, session_refusal, stepped, ends_by, stream_timeout, connection_after, connections_with}
-use Rattle.gate_model.specs.Prelude.{pending_by, pending_in, table_after, uses_until, Tracked, World, called, source_of, destination_of, SessionRules}
+use Rattle.gate_model.specs.Prelude.{pair_in, made_by, session_refusal, stepped, ends_by, stream_timeout, connection_after}
+use Rattle.gate_model.specs.Prelude.{pending_by, table_after, uses_until, Tracked, World, called, source_of, destination_of, SessionRules}
 use Rattle.event_payloads.specs.Prelude.{IsWayOf, image_by, is_empty, header_uses}
 use Rattle.event_payloads.specs.declared.addresses.Way.{Way}
 use Rattle.event_payloads.proofs.Passes.{source_called, destination_called}
@@ -57,8 +57,9 @@ pub record AreUsed {S : Type 0} (rules : SessionRules S) (live : World S) (side 
 pub passed_is : {S A : Type 0} (rules : SessionRules S) (tells : Tells S A) (live : World S) (side : Side) (d : Datagram) (way : Way)
     (taker : Option (Tracked S)) (table : Bindings) (connections : List (Connection (Tracked S))) (pending : ℕ) (sent : A) →
     AreUsed rules live side d way table → taker_in rules live side live.clock d ≡ taker → None ≡ stream_refusal rules live side d →
-    connections ≡ connections_with live side d (connection_after rules (image_of rules live side d) live side live.clock d taker) →
-    pending ≡ max live.pending (pending_in rules (connection_after rules (image_of rules live side d) live side live.clock d taker)) →
+    connections ≡ changed live.connections (place_of (key_in live.table side d) live.connections)
+    (connection_after rules (image_of rules live side d) live side live.clock d taker) →
+    pending ≡ max live.pending (pending_by rules (session_in (connection_after rules (image_of rules live side d) live side live.clock d taker))) →
     sent ≡ tells.segment (image_of rules live side d) side d (image_by way.of_source way.source).0
     (image_by way.of_destination way.destination).0 taker →
     IsSegmentTaken rules tells live side d None (world_of live.clock table connections pending) sent
@@ -68,7 +69,8 @@ passed_is {S = S} rules tells live side d way taker table connections pending se
       ap (λ (x : Bindings). world_of live.clock x connections pending) u.bound
       ∙ ap (λ (x : List (Connection (Tracked S))). world_of live.clock (table_after rules live side live.clock d Stream) x pending) two
       ∙ ap (world_of live.clock (table_after rules live side live.clock d Stream)
-      (connections_with live side d (connection_after rules (image_of rules live side d) live side live.clock d taker))) three
+      (changed live.connections (place_of (key_in live.table side d) live.connections)
+      (connection_after rules (image_of rules live side d) live side live.clock d taker))) three
       ∙ ap (λ (x : Option (Tracked S)). with_connection rules live side d (table_after rules live side live.clock d Stream)
       (connection_after rules (image_of rules live side d) live side live.clock d x)) (sym t);
   gone =
@@ -219,7 +221,7 @@ session_goes_on {S = S} rules tells live way d t waiting table_new connections_n
     ∙ sym (ap (λ (x : Bool). changed live.connections (place_of key live.connections) (left x)) on.0))
     (ap (max live.pending)
     (on.1 ∙ sym
-    (ap (λ (x : Bool). pending_in rules (left x)) on.0
+    (ap (λ (x : Bool). pending_by rules (session_in (left x))) on.0
     ∙ ap (pending_by rules) (session_left key t s way.side flags (Some t) (now_of live) (found_in live way.side d) e))))
     g
 
@@ -309,7 +311,7 @@ session_begins {S = S} rules tells live way d waiting full table_new connections
     ∙ sym (ap (λ (x : Bool). changed live.connections (place_of key live.connections) (left x)) on))
     (ap (λ (o : Option ℕ). max live.pending (unwrap_or o 0)) (h ∙ ap (λ (x : Bool). if x then None else Some (pending_by rules (Some s))) on)
     ∙ ap (max live.pending)
-    (sym (ap (λ (x : Bool). pending_in rules (left x)) on
+    (sym (ap (λ (x : Bool). pending_by rules (session_in (left x))) on
     ∙ ap (pending_by rules) (session_begun key t s way.side flags (now_of live) (found_in live way.side d) none plain))))
     g
 

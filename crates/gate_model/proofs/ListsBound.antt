@@ -21,7 +21,6 @@ use Rattle.binding_table.proofs.Back.{crosses_back}
 use Rattle.binding_table.proofs.Bind.{HasNoBinding, unbound_cross}
 use Rattle.binding_table.proofs.Used.{known_used, same_used}
 use Rattle.gate_model.specs.Prelude.{IsImage, IsEntryBound, renamed_in, is_unbound, uses_until, is_new_unbound}
-use Rattle.gate_model.specs.Held.{IsBoundAs}
 use Rattle.gate_model.proofs.BoundTables.{none_alias, placed, known_seen, lives, lawful_used}
 use Rattle.gate_model.proofs.BoundUses.{use_of, host_lasts, alias_lasts, bound_from, back_bound}
 use Rattle.gate_model.proofs.HostsKept.{known_back}
@@ -35,6 +34,11 @@ bound_used table side host alias until one lawful h =
       | inl same ↦ absurd (true≢false (sym same.0 ∙ same_used table one (record { 0 = host }) ∙ (placed table side host alias until lawful h).0))
       | inr b ↦ b
     ]
+
+-- an address of the realm crosses to another through a binding that is for good or lasts at least until a moment: its own, or that of the host
+-- for which it stands
+abbrev pub IsBoundAs : Bindings → Side → ℕ → ℕ → ℕ → Type 0
+IsBoundAs table side address image until = IsBoundTo table side address image until ⊎ IsBoundTo table (other side) image address until
 
 pub as_used : (table : Bindings) (side : Side) (address image until : ℕ) (one : Use) → IsLawful table → IsBoundAs table side address image until
     → IsBoundAs (used table one) side address image until

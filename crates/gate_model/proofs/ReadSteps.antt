@@ -13,7 +13,7 @@ use Rattle.tcp_tracker.specs.Prelude.{after, place_of, changed, with_session}
 use Rattle.tcp_tracker.specs.declared.connection.Connection.{Connection}
 use Rattle.gate_model.specs.Prelude.{Whole, Kind, Error, Stream, datagram_in, kind_of, SessionRules, Tracked, World, at_moment, called, source_of}
 use Rattle.gate_model.specs.Prelude.{destination_of, host_on, tracked_as, connection_as, world_as, Reads, tcp_of, segment_of, key_in, found_in}
-use Rattle.gate_model.specs.Prelude.{session_in, session_refusal, stepped, ends_by, connection_after, connections_with, pending_by, pending_in}
+use Rattle.gate_model.specs.Prelude.{session_in, session_refusal, stepped, ends_by, connection_after, pending_by}
 use Rattle.gate_model.specs.Prelude.{sent_as, inside, table_after, image_in, verdict, taker_in, with_connection, after_kind, next_by, next}
 use Rattle.gate_model.specs.Prelude.{stream_out, out_between, out_kind, out_by, out}
 use Rattle.gate_model.proofs.ReadLists.{place_of_as, after_as, changed_as}
@@ -59,7 +59,7 @@ connection_after_as {S = S} {T = T} h a b r image live side moment d t e =
     by_test false s (Some c) = refl
 
 pending_as : {S T : Type 0} (h : S → T) (a : SessionRules S) (b : SessionRules T) → Reads h a b → (c : Option (Connection (Tracked S)))
-    → pending_in b (option_map (connection_as h) c) ≡ pending_in a c
+    → pending_by b (session_in (option_map (connection_as h) c)) ≡ pending_by a (session_in c)
 pending_as {S = S} h a b r c = ap (pending_by b) (session_as h c) ∙ by_session (session_in c)
   where
     by_session : (t : Option (Tracked S)) → pending_by b (option_map (tracked_as h) t) ≡ pending_by a t
@@ -71,13 +71,19 @@ with_connection_as : {S T : Type 0} (h : S → T) (a : SessionRules S) (b : Sess
     → with_connection b (world_as h live) side d table (option_map (connection_as h) c) ≡ world_as h (with_connection a live side d table c)
 with_connection_as {T = T} h a b r live side d table c =
     let key = key_in live.table side d in
-    let all : connections_with (world_as h live) side d (option_map (connection_as h) c) ≡ map (connection_as h) (connections_with live side d c) =
+    let mine = changed live.connections (place_of key live.connections) c in
+    let all : changed (map (connection_as h) live.connections) (place_of key (map (connection_as h) live.connections))
+    (option_map (connection_as h) c) ≡ map (connection_as h) mine =
     ap (λ place. changed (map (connection_as h) live.connections) place (option_map (connection_as h) c)) (place_of_as h key live.connections)
     ∙ changed_as h live.connections (place_of key live.connections) c in
-    ap (λ (xs : List (Connection (Tracked T))). record
-    { clock = live.clock; table = table; connections = xs; pending = max live.pending (pending_in b (option_map (connection_as h) c)) }) all
+    ap (λ (xs : List (Connection (Tracked T))). record {
+      clock = live.clock;
+      table = table;
+      connections = xs;
+      pending = max live.pending (pending_by b (session_in (option_map (connection_as h) c)));
+    }) all
     ∙ ap (λ (n : ℕ). record
-    { clock = live.clock; table = table; connections = map (connection_as h) (connections_with live side d c); pending = max live.pending n })
+    { clock = live.clock; table = table; connections = map (connection_as h) mine; pending = max live.pending n })
     (pending_as h a b r c)
 
 after_kind_as : {S T : Type 0} (h : S → T) (a : SessionRules S) (b : SessionRules T) → Reads h a b

@@ -28,7 +28,7 @@ use Rattle.tcp_tracker.specs.declared.connection.Connection.{Connection}
 use Rattle.gate_model.specs.Prelude.{Lists, list_of, with_list, addresses_in, entered, whole_rules, lists_at, meaning_by, entries_by, units_by}
 use Rattle.gate_model.specs.Prelude.{completed, reads_by, whole_units, whole_learned, Tracked, opening_world, Reads, Remembered, RememberedSession}
 use Rattle.gate_model.specs.Prelude.{remembering_rules, IsRenamed, UnitsAreRenamed, EachTracked, next as world_next}
-use Rattle.gate_model.specs.Remembered.{Passed, remembered, begun, step, AllPass, StreamIs, IsRemembered, SessionIs}
+use Rattle.gate_model.specs.Remembered.{Passed, remembered, begun, step, AllPass, StreamIs, SessionIs}
 use Rattle.gate_model.proofs.Entering.{entered_more, entered_all, all_renamed_more, all_renamed, listed_units, all_append, split_listed}
 use Rattle.gate_model.proofs.Tracking.{UnitsFit, Keeps, run_keeps}
 
@@ -404,6 +404,12 @@ step_more : (t : RememberedSession) (ps : List Passed) (p : Passed) → fold ste
 step_more t [] p = refl
 step_more t (x ∷ ps) p = step_more (step t x) ps p
 
+-- what a session remembers is true: it began with its hosts' pair, none of its segments was refused, and it is what they made of it
+pub record IsRemembered (t : Tracked RememberedSession) : Type 0 where
+  pub pair : t.session.pair ≡ t.pair
+  pub passed : AllPass (begun t.session) t.session.past
+  pub session : t.session ≡ fold step (begun t.session) t.session.past
+
 remembered_next : (image : Addr → Option Addr) (f : Host) (t : Tracked RememberedSession) (g : Segment)
     → segment_refusal f t.session.session.session g ≡ None → IsRemembered t
     → IsRemembered (record { client = t.client; pair = t.pair; session = remembering_rules.next image f t.session g })
@@ -450,7 +456,8 @@ stream_is t host h =
     record { meaning = (h.holds host).meaning; units = h.units host; sent = (h.holds host).sent; acknowledged = (h.holds host).acked.each }
 
 pub session_is : (t : Tracked RememberedSession) → TrackedHolds t → SessionIs t
-session_is t h = record { remembers = h.remembers; streams = λ host. stream_is t host h.streams }
+session_is t h =
+    let r = h.remembers in record { pair = r.pair; passed = r.passed; session = r.session; streams = λ host. stream_is t host h.streams }
 
 -- what always holds of the hosts of a session
 facts_is : (host : Host) (t : Tracked RememberedSession) → TrackedHolds t → Facts (own host t.session.session.session)

@@ -34,7 +34,7 @@ use Rattle.gate_model.specs.Prelude.{out_by, out_kind, tcp_of, is_tracked_port, 
 use Rattle.gate_model.specs.Prelude.{session_refusal, refusal_tests, unit_tests, growth_tests, lacks_session, is_full, names_in, image_in, stream_out}
 use Rattle.gate_model.specs.Verdict.{kind_tests, late_tests, payload_addresses, verdict}
 use Rattle.gate_model.specs.Stream.{has_tracked_port}
-use Rattle.gate_model.specs.Transparent.{IsTranslated, KeepsAlias, MeansOne, IsReply, own_tests, own_reason}
+use Rattle.gate_model.specs.Transparent.{IsTranslated, KeepsAlias, MeansOne, IsReply, own_tests}
 use Rattle.gate_model.specs.Transparent.{IsUntracked, IsPlainKind, ComesBack, IsAbout, ComesHome}
 use Rattle.gate_model.proofs.AliasesLast.{StandFor, cross_back, called_is, stand_after, stand_expired, stand_through}
 use Rattle.gate_model.proofs.AliasesLast.{lawful_through, lawful_next, lawful_by, passed_table, HostsAre, hosts_are, hosts_later}
@@ -248,7 +248,7 @@ in_order a b c d = append_assoc a (b ++ c) d ∙ ap (λ (xs : List (Bool × Refu
 
 pub plain_verdict : {S : Type 0} (rules : SessionRules S) (v : World S) (r : Event) → IsPlainKind (kind_of (datagram_in r))
     → first_that_holds (address_tests (at_moment v r.moment).table r.side (datagram_in r)) ≡ None
-    → needed (at_moment v r.moment).table r.side (addresses_of (datagram_in r)) ≡ 0 → verdict rules v r ≡ verdict_of (own_reason r)
+    → needed (at_moment v r.moment).table r.side (addresses_of (datagram_in r)) ≡ 0 → verdict rules v r ≡ verdict_of (first_that_holds (own_tests r))
 unfolding verdict
 plain_verdict rules v r plain addresses room =
     let live = at_moment v r.moment in
@@ -496,7 +496,8 @@ comes_back {S = S} rules w e between r lawful v reply before less = record {
     to = called_is (table_by rules (fold (next rules) (next rules w e) between) r) r.side (destination_of (datagram_in r))
         (source_of (datagram_in e)) (destination_seen (table_by rules (fold (next rules) (next rules w e) between) r) lawful_r kept)
 
-    plain : IsPlainKind (kind_of (datagram_in r)) → verdict rules (fold (next rules) (next rules w e) between) r ≡ verdict_of (own_reason r)
+    plain : IsPlainKind (kind_of (datagram_in r))
+        → verdict rules (fold (next rules) (next rules w e) between) r ≡ verdict_of (first_that_holds (own_tests r))
     plain kind = plain_verdict rules (fold (next rules) (next rules w e) between) r kind addresses room
 
 -- ## ICMP errors

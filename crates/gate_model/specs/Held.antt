@@ -9,8 +9,7 @@ use Rattle.gate_base.specs.declared.side.Side.TheVariants.{Left, Right}
 use Rattle.gate_base.specs.declared.host.Host.{Host}
 use Rattle.gate_base.specs.declared.host.Host.TheVariants.{Client, Server}
 use Rattle.binding_table.specs.Prelude.{Bindings, is_same, seen, IsBoundTo, IsKnownAs, IsLawful}
-use Rattle.dialogue.specs.Prelude.{Entry, is_listed}
-use Rattle.dns_stream.specs.Prelude.{image_in}
+use Rattle.dialogue.specs.Prelude.{Entry}
 use Rattle.tcp_tracker.specs.declared.connection.ConnKey.{ConnKey}
 use Rattle.tcp_tracker.specs.declared.connection.Connection.{Connection}
 use Rattle.stream_model.specs.Prelude.{Segment}
@@ -42,14 +41,12 @@ pub record PairCrosses {S : Type 0} (table : Bindings) (t : Tracked S) : Type 0 
   pub client : seen table t.client t.pair.client ≡ Some t.pair.client_alias
   pub server : seen table t.client t.pair.server_alias ≡ Some t.pair.server
 
--- an address of the realm crosses to another through a binding that is for good or lasts at least until a moment: its own, or that of the host for which it stands
-abbrev pub IsBoundAs : Bindings → Side → ℕ → ℕ → ℕ → Type 0
-IsBoundAs table side address image until = IsBoundTo table side address image until ⊎ IsBoundTo table (other side) image address until
-
--- so does an address to its listed image; one that is kept crosses unchanged
+-- an address of the realm crosses to its listed image through a binding that is for good or lasts at least until a moment: its own, or that
+-- of the host for which it stands; one that is kept crosses unchanged
 abbrev pub IsImage : Bindings → Side → ℕ → Addr → Option Addr → Type 0
 IsImage table side until address None = is_same table address ≡ true
-IsImage table side until address (Some image) = IsBoundAs table side address.0 image.0 until
+IsImage table side until address (Some image) =
+    IsBoundTo table side address.0 image.0 until ⊎ IsBoundTo table (other side) image.0 address.0 until
 
 abbrev pub IsEntryBound : Bindings → Side → ℕ → Entry → Type 0
 IsEntryBound table side until entry = IsImage table side until entry.0 entry.1
@@ -87,11 +84,6 @@ EntryCrosses table side entry = seen table side entry.0 ≡ Some (unwrap_or entr
 
 abbrev pub ListsCross : {S : Type 0} → SessionRules S → Bindings → Tracked S → Type 0
 ListsCross rules table t = (host : Host) → AllByRecursion (EntryCrosses table (side_of host t)) (rules.listed host t.session)
-
--- each address that was listed keeps its image
-abbrev pub KeepsImages : {S : Type 0} → SessionRules S → Tracked S → Tracked S → Type 0
-KeepsImages rules old new = (host : Host) (number : ℕ) → is_listed (rules.listed host old.session) number ≡ true
-    → image_in (rules.listed host new.session) number ≡ image_in (rules.listed host old.session) number
 
 -- no list is longer than the most
 abbrev pub ListsAreFew : {S : Type 0} → SessionRules S → Tracked S → Type 0

@@ -1,16 +1,10 @@
 -- SNMP messages (RFC 2962).
-use Rattle.std.specs.Prelude.{ℕ, Bool, nat_lt, List, length, Option, option_map, is_none}
+use Rattle.std.specs.Prelude.{ℕ, List, Option, option_map}
 use Rattle.gate_base.specs.declared.side.Side.{Side}
 use Rattle.binding_table.specs.Prelude.{Bindings, seen}
 use Rattle.ipv4_frames.specs.Ipv4.{Datagram}
-use Rattle.snmp_gateway.specs.Message.{message}
 use Rattle.snmp_oids.specs.Elements.{oid_renamed}
 use Rattle.gate_model.specs.Names.{carried}
-use Rattle.gate_model.specs.declared.TheConstants.{MOST_CARRIED}
-
--- the octets are no message
-abbrev pub is_bad_snmp : Datagram → Bool
-is_bad_snmp d = is_none (message (carried d))
 
 -- what an address that is a number is called in the other realm
 abbrev pub number_seen : Bindings → Side → ℕ → Option ℕ
@@ -19,7 +13,3 @@ number_seen table side address = option_map (λ image. image.0) (seen table side
 -- the message that goes on, by the bindings after it
 abbrev pub management_after : Bindings → Side → Datagram → List ℕ
 management_after after side d = oid_renamed (number_seen after side) after.oids (carried d)
-
--- it is longer than a datagram holds behind both headers
-abbrev pub is_snmp_too_long : Bindings → Side → Datagram → Bool
-is_snmp_too_long after side d = nat_lt MOST_CARRIED (length (management_after after side d))

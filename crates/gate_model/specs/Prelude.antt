@@ -6,12 +6,12 @@ pub use Rattle.gate_model.specs.Sessions.{WholeSession, completed, entries_by, l
 pub use Rattle.gate_model.specs.Sessions.{reads_by, units_by, whole_learned, whole_next, whole_units}
 pub use Rattle.gate_model.specs.Rules.{SessionRules, whole_rules}
 pub use Rattle.gate_model.specs.World.{Tracked, World, addresses_of, at_moment, called, destination_of, host_on, opening_world, source_of}
-pub use Rattle.gate_model.specs.Stream.{begins, connection_after, connections_with, ends_by, found_in, is_full, is_opening}
-pub use Rattle.gate_model.specs.Stream.{key_in, key_of, lacks_session, made_by, pair_in, pending_by, pending_in, segment_of}
+pub use Rattle.gate_model.specs.Stream.{begins, connection_after, ends_by, found_in, is_full, is_opening}
+pub use Rattle.gate_model.specs.Stream.{key_in, key_of, lacks_session, made_by, pair_in, pending_by, segment_of}
 pub use Rattle.gate_model.specs.Stream.{sent_as, session_in, session_refusal, stepped, stream_timeout, taker_by, tcp_of}
 pub use Rattle.gate_model.specs.Inner.{inner_number, inside, is_inner_unbound, is_unknown, with_inside}
 pub use Rattle.gate_model.specs.Names.{carried, has_unbound, is_unbound, message_in, named_in, names_after, reply_by}
-pub use Rattle.gate_model.specs.Management.{is_snmp_too_long, management_after, number_seen}
+pub use Rattle.gate_model.specs.Management.{management_after, number_seen}
 pub use Rattle.gate_model.specs.Units.{entries_after, entries_in, growth_tests, is_new_unbound}
 pub use Rattle.gate_model.specs.Units.{names_in, unit_tests, units_in, uses_of_lists, uses_until}
 pub use Rattle.gate_model.specs.Verdict.{address_tests, image_in, is_pool_empty, is_reachable, kind_tests, late_tests, payload_addresses}

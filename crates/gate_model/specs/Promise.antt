@@ -1,7 +1,8 @@
 -- What is promised of the frames of two realms, whatever they are.
 use Rattle.std.specs.Prelude.{◌≡◌, ◌≤◌, ◌<◌, ◌+◌, ◌-◌, ◌⊎◌, ℕ, true, false, All, List, [], ◌∷◌, ◌++◌, length, Option, Some, None}
 use Rattle.std.specs.List.{fold}
-use Rattle.dialogue.specs.Prelude.{image}
+use Rattle.dialogue.specs.Prelude.{image, is_listed}
+use Rattle.dns_stream.specs.Prelude.{image_in}
 use Rattle.gate_base.specs.Prelude.{Event, other}
 use Rattle.verdicts.specs.Prelude.{first_that_holds}
 use Rattle.gate_base.specs.declared.address.Addr.{Addr}
@@ -16,7 +17,7 @@ use Rattle.gate_model.specs.Called.{CrossBack, IsKeptUntil, AllBefore, header_un
 use Rattle.gate_model.specs.ForGood.{IsFixed}
 use Rattle.gate_model.specs.Frame.{Dns, Whole, Stream, datagram_in, kind_of}
 use Rattle.gate_model.specs.GoingOn.{streams_of, OnlyRestsWait, HasDataSegment, GoesOnBy, ComesThrough}
-use Rattle.gate_model.specs.Held.{PairCrosses, KeepsLists, ListsCross, KeepsImages}
+use Rattle.gate_model.specs.Held.{PairCrosses, KeepsLists, ListsCross}
 use Rattle.gate_model.specs.Octets.{AreOctets, GoesAsItCame, IsReadAs, IsAnswer}
 use Rattle.gate_model.specs.Origins.{ComesFromUse, IsMeant}
 use Rattle.gate_model.specs.Reading.{world_as}
@@ -89,7 +90,9 @@ pub record SegmentIs (w : World WholeSession) (v : World RememberedSession) (e :
   -- what holds of each session holds of this one afterwards, also where it ends with that;
   pub session : SessionIs (taken_by remembering_rules v e t)
   -- each address that its lists named before has kept its image;
-  pub images : KeepsImages remembering_rules t (taken_by remembering_rules v e t)
+  pub images : (host : Host) (number : ℕ) → let old = remembering_rules.listed host t.session in
+      let new = remembering_rules.listed host (taken_by remembering_rules v e t).session in
+      is_listed old number ≡ true → image_in new number ≡ image_in old number
   -- and what goes out for a segment without SYN and RST brings what is lacking of its sender's octets, also where the session ends with that
   pub going : HasDataSegment e → GoesOnBy v e t
 

@@ -108,15 +108,12 @@ pub record StreamIs (host : Host) (t : Tracked RememberedSession) : Type 0 where
   -- and each acknowledgement that went out to its sender covers only octets whose images the other host acknowledged
   pub acknowledged : let past = t.session.streams host in AllByRecursion (IsBack (own host t.session.session.session) past.places) past.numbers
 
--- what a session remembers is true: it began with its hosts' pair, none of its segments was refused, and it is what they made of it
-pub record IsRemembered (t : Tracked RememberedSession) : Type 0 where
+-- what holds of a session: what it remembers is true (it began with its hosts' pair, none of its segments was refused, and it is what they
+-- made of it), and the streams of both hosts are as they should be
+pub record SessionIs (t : Tracked RememberedSession) : Type 0 where
   pub pair : t.session.pair ≡ t.pair
   pub passed : AllPass (begun t.session) t.session.past
   pub session : t.session ≡ fold step (begun t.session) t.session.past
-
--- what holds of a session: what it remembers is true, and the streams of both hosts are as they should be
-pub record SessionIs (t : Tracked RememberedSession) : Type 0 where
-  pub remembers : IsRemembered t
   pub streams : (host : Host) → StreamIs host t
 
 -- each tracked session has this

@@ -4,9 +4,10 @@ use Rattle.gate_base.specs.declared.address.Addr.{Addr}
 use Rattle.gate_base.specs.declared.event.Pair.{Pair}
 use Rattle.verdicts.specs.declared.refusal.Refusal.{Refusal}
 use Rattle.gate_base.specs.declared.host.Host.{Host}
+use Rattle.gate_base.specs.declared.host.Host.TheVariants.{Client, Server}
 use Rattle.dialogue.specs.Prelude.{Entry}
-use Rattle.stream_model.specs.Prelude.{Segment, Outgoing, segment_refusal, session_ends, session_inner, session_open}
-use Rattle.gate_model.specs.Sessions.{WholeSession, whole_made, whole_units, whole_listed, whole_next, whole_out}
+use Rattle.stream_model.specs.Prelude.{Segment, Outgoing, segment_refusal, session_ends, session_inner, session_made, session_open, session_out}
+use Rattle.gate_model.specs.Sessions.{WholeSession, entries_by, lists_at, meaning_by, whole_units, whole_learned, whole_next}
 
 -- the answers of sessions of one representation; where a segment is taken, it is told which host sends it, and what an address that it names first is called
 pub record SessionRules (S : Type 0) : Type 0 where
@@ -32,12 +33,13 @@ pub record SessionRules (S : Type 0) : Type 0 where
 -- sessions over whole lists
 abbrev pub whole_rules : SessionRules WholeSession
 whole_rules = record {
-  made = whole_made;
+  made = λ port pair initial mss. let meaning = meaning_by (lists_at port) pair in
+      record { lists = lists_at port; session = session_made (meaning Client) (meaning Server) initial mss };
   refusal = λ from x segment. segment_refusal from x.session segment;
   units = whole_units;
-  listed = whole_listed;
+  listed = λ host x. entries_by x.lists host;
   next = whole_next;
-  out = whole_out;
+  out = λ image from x segment. session_out from (whole_learned image from x segment).session segment;
   ends = λ from x segment. session_ends from x.session segment;
   inner = λ host x number. session_inner host x.session number;
   pending = λ x. session_open x.session;

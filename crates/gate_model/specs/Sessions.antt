@@ -7,7 +7,7 @@ use Rattle.gate_base.specs.declared.host.Host.TheVariants.{Client, Server}
 use Rattle.dialogue.specs.Prelude.{Entry, Meaning, cut}
 use Rattle.dns_stream.specs.Prelude.{dns_units}
 use Rattle.ftp_lines.specs.Renaming.{client_lines, server_lines}
-use Rattle.stream_model.specs.Prelude.{Sender, Session, Segment, Outgoing, own, other, session, session_made, session_next, session_out, own_after}
+use Rattle.stream_model.specs.Prelude.{Sender, Session, Segment, own, other, session, session_next, own_after}
 use Rattle.gate_base.specs.declared.protocol.TheConstants.{DNS_PORT}
 use Rattle.gate_model.specs.Lists.{Lists, list_of, with_list, addresses_in, entered}
 
@@ -51,23 +51,14 @@ with_entries host entries x =
     let lists = option_map (with_list host entries) x.lists in
     record { lists = lists; session = session host (reads_by lists host (own host x.session)) (other host x.session) }
 
--- the answers of sessions over whole lists, as SessionRules tells them
-abbrev pub whole_made : ℕ → Pair → ℕ → ℕ → WholeSession
-whole_made port pair initial mss = let lists = lists_at port in
-    record { lists = lists; session = session_made (meaning_by lists pair Client) (meaning_by lists pair Server) initial mss }
-
+-- the units that a segment completes in a session of DNS
 abbrev pub whole_units : Host → WholeSession → Segment → List (List ℕ)
 whole_units from x segment = units_by x.lists (completed (own from x.session) segment)
 
-abbrev pub whole_listed : Host → WholeSession → List Entry
-whole_listed host x = entries_by x.lists host
-
 -- the session that has learned what a segment's units name: their addresses are entered into the list of its sender
 abbrev pub whole_learned : (Addr → Option Addr) → Host → WholeSession → Segment → WholeSession
-whole_learned image from x segment = with_entries from (entered image (whole_listed from x) (addresses_in (whole_units from x segment))) x
+whole_learned image from x segment = with_entries from (entered image (entries_by x.lists from) (addresses_in (whole_units from x segment))) x
 
+-- and that has taken the segment then
 abbrev pub whole_next : (Addr → Option Addr) → Host → WholeSession → Segment → WholeSession
 whole_next image from x segment = let y = whole_learned image from x segment in record y { session = session_next from y.session segment }
-
-abbrev pub whole_out : (Addr → Option Addr) → Host → WholeSession → Segment → List Outgoing
-whole_out image from x segment = session_out from (whole_learned image from x segment).session segment

@@ -7,6 +7,7 @@ use Rattle.verdicts.specs.declared.verdict.Verdict.TheVariants.{Pass}
 use Rattle.gate_base.specs.declared.side.Side.{Side}
 use Rattle.binding_table.specs.Prelude.{Bindings}
 use Rattle.ipv4_frames.specs.Ipv4.{Datagram}
+use Rattle.tcp_tracker.specs.Prelude.{place_of, changed}
 use Rattle.tcp_tracker.specs.declared.connection.Connection.{Connection}
 use Rattle.twice_translate.specs.Renamed.{renamed, with_payload}
 use Rattle.gate_model.specs.Frame.{Error, Dns, Snmp, Kind, Whole, Stream, datagram_in, kind_of}
@@ -14,7 +15,7 @@ use Rattle.gate_model.specs.Inner.{inside, inner_after, with_inside}
 use Rattle.gate_model.specs.Management.{management_after}
 use Rattle.gate_model.specs.Names.{names_after}
 use Rattle.gate_model.specs.Rules.{SessionRules}
-use Rattle.gate_model.specs.Stream.{segment_of, found_in, taker_by, connection_after, connections_with, pending_in, sent_as}
+use Rattle.gate_model.specs.Stream.{segment_of, found_in, key_in, session_in, taker_by, connection_after, pending_by, sent_as}
 use Rattle.gate_model.specs.Verdict.{table_after, image_in, verdict}
 use Rattle.gate_model.specs.World.{World, Tracked, at_moment, called, source_of, destination_of, host_on}
 
@@ -27,7 +28,8 @@ taker_in rules live side moment d = taker_by rules (table_after rules live side 
 -- its connection is another one afterwards
 abbrev pub with_connection : {S : Type 0} → SessionRules S → World S → Side → Datagram → Bindings → Option (Connection (Tracked S)) → World S
 with_connection rules live side d table c =
-    record live { table = table; connections = connections_with live side d c; pending = max live.pending (pending_in rules c) }
+    let all = changed live.connections (place_of (key_in live.table side d) live.connections) c in
+    record live { table = table; connections = all; pending = max live.pending (pending_by rules (session_in c)) }
 
 -- what a datagram of a kind that passes leaves of what lives
 abbrev pub after_kind : {S : Type 0} → SessionRules S → World S → Side → ℕ → Datagram → Kind → World S

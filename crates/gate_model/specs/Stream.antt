@@ -9,7 +9,7 @@ use Rattle.binding_table.specs.Prelude.{Bindings}
 use Rattle.ipv4_frames.specs.Ipv4.{Datagram}
 use Rattle.tcp_segments.specs.Prelude.{flags_of, flags_octet, Tcp, tcp_fields_of, tcp_header_length_of, spelled_segment, datagram_of}
 use Rattle.stream_model.specs.Prelude.{Segment, Outgoing, segment_in}
-use Rattle.tcp_tracker.specs.Prelude.{is_tracked, place_of, connection_of, timeout_of, after, changed, with_session}
+use Rattle.tcp_tracker.specs.Prelude.{is_tracked, connection_of, timeout_of, after, with_session}
 use Rattle.tcp_tracker.specs.declared.connection.TheConstants.{SHORT_TIMEOUT}
 use Rattle.tcp_tracker.specs.declared.connection.ConnKey.{ConnKey}
 use Rattle.tcp_tracker.specs.declared.connection.Connection.{Connection}
@@ -122,18 +122,10 @@ connection_after rules image live side moment d taker =
     else option_map (with_session (option_map (stepped rules image side d) taker))
     (after (key_in live.table side d) side (tcp_of d).flags taker (record { 0 = moment }) (found_in live side d))
 
--- the connections, where one becomes another
-abbrev pub connections_with : {S : Type 0} → World S → Side → Datagram → Option (Connection (Tracked S)) → List (Connection (Tracked S))
-connections_with live side d c = changed live.connections (place_of (key_in live.table side d) live.connections) c
-
 -- how many changed lines or units wait in a session
 abbrev pub pending_by : {S : Type 0} → SessionRules S → Option (Tracked S) → ℕ
 pending_by rules None = 0
 pending_by rules (Some t) = rules.pending t.session
-
--- and in the one that is left
-abbrev pub pending_in : {S : Type 0} → SessionRules S → Option (Connection (Tracked S)) → ℕ
-pending_in rules c = pending_by rules (session_in c)
 
 -- an outgoing segment as a datagram: a header by the segment's, without selective acknowledgements and urgency, and the lifetime less 1
 abbrev pub sent_as : Datagram → ℕ → ℕ → Outgoing → List ℕ

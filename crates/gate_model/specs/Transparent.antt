@@ -1,6 +1,6 @@
 -- That translation is transparent: nothing goes out under an address of the wrong realm, an alias means one host at a time, and replies
 -- come back (RFC 2663, RFC 4787, RFC 5382, RFC 5508).
-use Rattle.std.specs.Prelude.{◌≡◌, ◌⊎◌, Bool, true, false, if◌then◌else◌, map, All, List, [], ◌∷◌, ◌++◌, Option, Some, None, IfSome, option_and_then}
+use Rattle.std.specs.Prelude.{◌≡◌, ◌⊎◌, Bool, true, false, if◌then◌else◌, map, All, List, [], ◌∷◌, ◌++◌, Some, None, IfSome, option_and_then}
 use Rattle.gate_base.specs.Prelude.{Event, other, is_unicast_number}
 use Rattle.verdicts.specs.Prelude.{first_that_holds}
 use Rattle.gate_base.specs.declared.address.Addr.{Addr}
@@ -76,12 +76,9 @@ pub record IsReply {S : Type 0} (rules : SessionRules S) (w : World S) (e r : Ev
   pub source : source_of (datagram_in r) ≡ sent_to rules w e
   pub destination : destination_of (datagram_in r) ≡ sent_from rules w e
 
--- the tests of a frame by itself, and the first of them that holds
+-- the tests of a frame by itself
 abbrev pub own_tests : Event → List (Bool × Refusal)
 own_tests e = let d = datagram_in e in header_tests e ++ (datagram_tests d ++ transport_tests d)
-
-abbrev pub own_reason : Event → Option Refusal
-own_reason e = first_that_holds (own_tests e)
 
 -- a kind of which nothing behind the header of its protocol is looked at
 abbrev pub IsPlainKind : Kind → Type 0
@@ -104,8 +101,9 @@ pub record GetsThrough {S : Type 0} (rules : SessionRules S) (v : World S) (r : 
   pub from : sent_from rules v r ≡ alias
   pub to : sent_to rules v r ≡ host
   -- where nothing behind its headers is looked at, it is refused only for what it is by itself, and carries what it carried;
-  pub plain : IsPlainKind (kind_of (datagram_in r)) → verdict rules v r ≡ verdict_of (own_reason r)
-  pub sent : IsPlainKind (kind_of (datagram_in r)) → own_reason r ≡ None → out rules v r ≡ renamed (datagram_in r) alias.0 host.0 ∷ []
+  pub plain : IsPlainKind (kind_of (datagram_in r)) → verdict rules v r ≡ verdict_of (first_that_holds (own_tests r))
+  pub sent : IsPlainKind (kind_of (datagram_in r)) → first_that_holds (own_tests r) ≡ None
+      → out rules v r ≡ renamed (datagram_in r) alias.0 host.0 ∷ []
   -- so does a TCP segment that no session tracks, as long as there is room for its connection;
   pub segment : IsUntracked v r → let live = at_moment v r.moment in let d = datagram_in r in
       verdict rules v r ≡ verdict_of (first_that_holds (own_tests r ++ (is_full live.connections (found_in live r.side d) d, SessionsFull) ∷ []))

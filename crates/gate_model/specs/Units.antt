@@ -58,8 +58,7 @@ abbrev pub unit_tests : {S : Type 0} → SessionRules S → (Addr → Option Add
 unit_tests rules image table side d t =
     (list_any is_bad (units_in rules side d t), BadUnit)
     ∷ (list_any (is_new_unbound table side (entries_in rules side t)) (names_in rules side d t), UnitUnbound)
-    ∷ (nat_lt MOST_ENTRIES (length (entries_after rules image side d t)), RenamesFull)
-    ∷ []
+    ∷ (nat_lt MOST_ENTRIES (length (entries_after rules image side d t)), RenamesFull) ∷ []
 
 -- behind all others: one would grow too much by the list afterwards
 abbrev pub growth_tests : {S : Type 0} → SessionRules S → (Addr → Option Addr) → Side → Datagram → Option (Tracked S) → List (Bool × Refusal)

@@ -1,5 +1,5 @@
 -- What becomes of a frame: the first refusal that holds, or it passes.
-use Rattle.std.specs.Prelude.{ℕ, ◌+◌, Bool, true, not, ◌&&◌, ◌||◌, nat_lt, List, [], ◌∷◌, ◌++◌, Option, Some, None, is_some, is_none}
+use Rattle.std.specs.Prelude.{ℕ, ◌+◌, Bool, true, not, ◌&&◌, ◌||◌, nat_lt, List, [], ◌∷◌, ◌++◌, length, Option, Some, None, is_some, is_none}
 use Rattle.gate_base.specs.Prelude.{Event, other}
 use Rattle.verdicts.specs.Prelude.{first_that_holds}
 use Rattle.gate_base.specs.declared.address.Addr.{Addr}
@@ -12,40 +12,37 @@ use Rattle.gate_settings.specs.Prelude.{is_in_same}
 use Rattle.binding_table.specs.Prelude.{Bindings, in_pool, free, seen, Use, needed, after_uses, image_after}
 use Rattle.icmp_errors.specs.Inner.{is_inner, inner_fields}
 use Rattle.ipv4_frames.specs.Ipv4.{Datagram}
-use Rattle.gate_model.specs.Frame.{Payload, Udp, Echo, Error, Dns, Snmp, Kind, Whole, Stream, datagram_in, header_tests, datagram_tests, transport_tests, kind_of}
+use Rattle.gate_model.specs.Frame.{Payload, Echo, Error, Dns, Snmp, Kind, Whole, Stream, datagram_in, header_tests, datagram_tests, transport_tests, kind_of}
 use Rattle.gate_model.specs.Inner.{inside, is_inner_unbound}
-use Rattle.gate_model.specs.Management.{is_bad_snmp, is_snmp_too_long}
-use Rattle.gate_model.specs.Names.{message_in, named_in, has_unbound}
+use Rattle.gate_model.specs.Management.{management_after}
+use Rattle.gate_model.specs.Names.{carried, message_in, named_in, has_unbound}
 use Rattle.gate_model.specs.Rules.{SessionRules}
+use Rattle.snmp_gateway.specs.Message.{message}
 use Rattle.gate_model.specs.Stream.{found_in, session_in, taker_by, lacks_session, session_refusal, is_full, stream_timeout}
 use Rattle.gate_model.specs.Units.{uses_until, names_in, uses_of_lists, unit_tests, growth_tests}
+use Rattle.gate_model.specs.declared.TheConstants.{MOST_CARRIED}
 use Rattle.gate_model.specs.declared.timeouts.TheConstants.{ICMP_TIMEOUT, NAMED_TIMEOUT, UDP_TIMEOUT}
 use Rattle.gate_model.specs.World.{World, at_moment, source_of, destination_of, addresses_of}
 
 -- ## Uses
 
 -- the timeout of a header
-abbrev pub payload_timeout : Payload → ℕ
-payload_timeout Echo = ICMP_TIMEOUT
-payload_timeout Error = ICMP_TIMEOUT
-payload_timeout _ = UDP_TIMEOUT
-
 abbrev pub timeout_by : {S : Type 0} → SessionRules S → World S → Side → Datagram → Kind → ℕ
-timeout_by rules live side d (Whole payload) = payload_timeout payload
+timeout_by rules live side d (Whole Echo) = ICMP_TIMEOUT
+timeout_by rules live side d (Whole Error) = ICMP_TIMEOUT
+timeout_by rules live side d (Whole _) = UDP_TIMEOUT
 timeout_by rules live side d Stream = stream_timeout rules live side d
 
 -- the addresses that a payload uses: those that a DNS message names, or that a segment's messages name
-abbrev pub named_by : Payload → Datagram → List Addr
-named_by Dns d = named_in (message_in d)
-named_by _ d = []
-
 abbrev pub payload_addresses : {S : Type 0} → SessionRules S → World S → Side → Datagram → Kind → List Addr
-payload_addresses rules live side d (Whole payload) = named_by payload d
+payload_addresses rules live side d (Whole Dns) = named_in (message_in d)
+payload_addresses rules live side d (Whole _) = []
 payload_addresses rules live side d Stream = names_in rules side d (session_in (found_in live side d))
 
 -- their uses, until a moment where they hold as the header does: behind those of a DNS session stand the addresses that its lists rename
 abbrev pub payload_uses : {S : Type 0} → SessionRules S → World S → Side → ℕ → ℕ → Datagram → Kind → List Use
-payload_uses rules live side moment until d (Whole payload) = uses_until side (moment + NAMED_TIMEOUT) (named_by payload d)
+payload_uses rules live side moment until d (Whole payload) =
+    uses_until side (moment + NAMED_TIMEOUT) (payload_addresses rules live side d (Whole payload))
 payload_uses rules live side moment until d Stream =
     uses_until side until (payload_addresses rules live side d Stream) ++ uses_of_lists rules until (session_in (found_in live side d))
 
@@ -83,26 +80,18 @@ refusal_tests (Some refusal) = (true, refusal) ∷ []
 abbrev pub address_tests : Bindings → Side → Datagram → List (Bool × Refusal)
 address_tests table side d =
     (in_pool table side (source_of d), SourceInPool)
-    ∷ (not (is_reachable table side (destination_of d)), NoBinding)
-    ∷ []
+    ∷ (not (is_reachable table side (destination_of d)), NoBinding) ∷ []
 
--- of what a datagram carries
-abbrev pub payload_tests : {S : Type 0} → SessionRules S → World S → Side → Datagram → Payload → List (Bool × Refusal)
-payload_tests rules live side d Udp = []
-payload_tests rules live side d Echo = []
-payload_tests rules live side d Error =
-    (not (is_inner (inside d)), BadInner)
-    ∷ (is_inner_unbound rules live side (inner_fields (inside d)), InnerUnbound)
-    ∷ []
-payload_tests rules live side d Dns =
-    (is_none (message_in d), BadDns)
-    ∷ (has_unbound live.table side (named_in (message_in d)), DnsUnbound)
-    ∷ []
-payload_tests rules live side d Snmp = (is_bad_snmp d, BadSnmp) ∷ []
-
--- by its kind; the tests of a session stand among those of a segment
+-- of what a datagram carries, by its kind; the tests of a session stand among those of a segment
 abbrev pub kind_tests : {S : Type 0} → SessionRules S → World S → Side → ℕ → Datagram → Kind → List (Bool × Refusal)
-kind_tests rules live side moment d (Whole payload) = payload_tests rules live side d payload
+kind_tests rules live side moment d (Whole Error) =
+    (not (is_inner (inside d)), BadInner)
+    ∷ (is_inner_unbound rules live side (inner_fields (inside d)), InnerUnbound) ∷ []
+kind_tests rules live side moment d (Whole Dns) =
+    (is_none (message_in d), BadDns)
+    ∷ (has_unbound live.table side (named_in (message_in d)), DnsUnbound) ∷ []
+kind_tests rules live side moment d (Whole Snmp) = (is_none (message (carried d)), BadSnmp) ∷ []
+kind_tests rules live side moment d (Whole _) = []
 kind_tests rules live side moment d Stream =
     let found = found_in live side d in
     let taker = taker_by rules (table_after rules live side moment d Stream) side d found in
@@ -110,9 +99,9 @@ kind_tests rules live side moment d Stream =
     ∷ refusal_tests (session_refusal rules side d taker)
     ++ (unit_tests rules (image_in rules live side moment d) live.table side d taker ++ (is_full live.connections found d, SessionsFull) ∷ [])
 
--- of what goes on in place of a payload, by the bindings after its uses
+-- of what goes on in place of a payload, by the bindings after its uses: a message of SNMP must fit behind both headers
 abbrev pub image_tests : Bindings → Side → Datagram → Payload → List (Bool × Refusal)
-image_tests table side d Snmp = (is_snmp_too_long table side d, SnmpTooLong) ∷ []
+image_tests table side d Snmp = (nat_lt MOST_CARRIED (length (management_after table side d)), SnmpTooLong) ∷ []
 image_tests table side d _ = []
 
 -- the tests behind that of the pool

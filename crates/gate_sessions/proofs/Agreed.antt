@@ -19,7 +19,6 @@ use Rattle.compact_stream.proofs.SessionLemmas.{verdict_is, goes_on}
 use Rattle.stream_gate.proofs.OutLaw.{session_out_is, session_ends_is, session_inner_is}
 use Rattle.stream_gate.specs.Prelude.{nothing_pushed}
 use Rattle.gate_model.specs.Prelude.{Lists, with_list, addresses_in, entered, Agree, AreRelated, whole_rules, WholeSession, lists_at, meaning_by, entries_by, units_by, completed, whole_units, whole_next, next, World, opening_world}
-use Rattle.gate_model.specs.Sessions.{whole_out}
 use Rattle.gate_model.proofs.Entering.{listed_units_more}
 use Rattle.gate_model.proofs.Related.{related_run, opening_related}
 use Rattle.gate_model.proofs.RememberedSessions.{IsLonger, longer, learned, meaning_lawful, units_next, new_listed, made_each}
@@ -152,7 +151,8 @@ next_at image lists pair f h s g st v =
 
 pub out_at : (image : Addr → Option Addr) (lists : Option Lists) (pair : Pair) (f : Host) (h : CompactState) (s : Session) (g : Segment)
     → StandsFor (record { lists = lists; session = s }) (record { pair = pair; lists = lists; kept = h }) → segment_refusal f s g ≡ None
-    → compact_rules.out image f (record { pair = pair; lists = lists; kept = h }) g ≡ whole_out image f (record { lists = lists; session = s }) g
+    → compact_rules.out image f (record { pair = pair; lists = lists; kept = h }) g
+    ≡ whole_rules.out image f (record { lists = lists; session = s }) g
 out_at image lists pair f h s g st v =
     let es = entered image (entries_by lists f) (addresses_in (units_by lists (completed (own f s) g))) in
     let after = lists_with image lists f (units_by lists (completed (own f s) g)) in
@@ -179,10 +179,10 @@ next_stands image f x k g s v =
     (next_at image k.lists k.pair f k.kept x.session g (same_lists x k s) v)
 
 out_is : (image : Addr → Option Addr) (f : Host) (x : WholeSession) (k : CompactSession) (g : Segment) → StandsFor x k
-    → segment_refusal f x.session g ≡ None → compact_rules.out image f k g ≡ whole_out image f x g
+    → segment_refusal f x.session g ≡ None → compact_rules.out image f k g ≡ whole_rules.out image f x g
 out_is image f x k g s v =
     out_at image k.lists k.pair f k.kept x.session g (same_lists x k s) v
-    ∙ ap (λ (lists : Option Lists). whole_out image f (record { lists = lists; session = x.session }) g) (sym s.lists)
+    ∙ ap (λ (lists : Option Lists). whole_rules.out image f (record { lists = lists; session = x.session }) g) (sym s.lists)
 
 units_are : (f : Host) (x : WholeSession) (k : CompactSession) (g : Segment) → StandsFor x k → segment_refusal f x.session g ≡ None
     → kept_units f k g ≡ whole_units f x g

@@ -31,7 +31,7 @@ use Rattle.gate_model.specs.Promise.{IsPlain, LaterIs}
 use Rattle.gate_model.specs.Step.{next, out}
 use Rattle.gate_model.specs.Stream.{has_tracked_port}
 use Rattle.gate_model.specs.Transparent.{ComesBack, ComesHome, IsAbout, IsPlainKind, IsReply, IsUntracked, KeepsAlias, NamesAreCalled, ReachesHosts}
-use Rattle.gate_model.specs.Transparent.{own_reason}
+use Rattle.gate_model.specs.Transparent.{own_tests}
 use Rattle.gate_model.specs.Verdict.{image_tests, verdict}
 use Rattle.gate_model.specs.World.{at_moment, opening_world}
 use Rattle.gate_model.proofs.RowWords.{hex, fixed, pool, set, event}
@@ -111,7 +111,7 @@ is_plain : IsPlainKind (kind_of (datagram_in reply))
 unfolding frames_on_literals
 is_plain = tt
 
-is_whole : own_reason reply ≡ None
+is_whole : first_that_holds (own_tests reply) ≡ None
 unfolding frames_on_literals
 is_whole = refl
 
@@ -197,7 +197,7 @@ ping_is_plain : IsPlainKind (kind_of (datagram_in ping_answer))
 unfolding frames_on_literals
 ping_is_plain = tt
 
-ping_is_whole : own_reason ping_answer ≡ None
+ping_is_whole : first_that_holds (own_tests ping_answer) ≡ None
 unfolding frames_on_literals
 ping_is_whole = refl
 

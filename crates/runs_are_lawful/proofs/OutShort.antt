@@ -1,5 +1,5 @@
 -- What goes out at an event can be written as records.
-use Rattle.std.proofs.Common.{◌≡◌, ◌≤◌, ◌+◌, ℕ, false, List, [], ◌∷◌, ◌++◌, length, take, drop, Option, Some, None, refl, sym, ap, subst, arith, map, option_and_then, ltb-false}
+use Rattle.std.proofs.Common.{◌≡◌, ◌≤◌, ◌+◌, ℕ, false, nat_lt, List, [], ◌∷◌, ◌++◌, length, take, drop, Option, Some, None, refl, sym, ap, subst, arith, map, option_and_then, ltb-false}
 use Rattle.gate_base.specs.Prelude.{Event}
 use Rattle.verdicts.specs.declared.verdict.Verdict.{Verdict}
 use Rattle.gate_base.specs.declared.address.Addr.{Addr}
@@ -12,9 +12,10 @@ use Rattle.ipv4_frames.specs.Ipv4.{Datagram}
 use Rattle.stream_model.specs.Prelude.{Sender, Segment, Outgoing, other, Piece, limit_of, session_out, Sent, session_sent, ArePieces, segment_with, MaySend}
 use Rattle.twice_translate.specs.Renamed.{with_payload}
 use Rattle.gate_model.specs.Prelude.{Whole, Kind, Udp, Echo, Error, Dns, Snmp, Stream, datagram_in, kind_of, inside, inner_number, management_after}
-use Rattle.gate_model.specs.Prelude.{is_snmp_too_long, names_after, whole_rules, WholeSession, whole_learned, out, out_by, out_kind, stream_out}
+use Rattle.gate_model.specs.Prelude.{names_after, whole_rules, WholeSession, whole_learned, out, out_by, out_kind, stream_out}
 use Rattle.gate_model.specs.Prelude.{taker_in, segment_of, sent_as, table_after, image_in, verdict, World, Tracked, at_moment, called, source_of}
 use Rattle.gate_model.specs.Prelude.{destination_of, host_on}
+use Rattle.gate_model.specs.declared.TheConstants.{MOST_CARRIED}
 use Rattle.gate_model.proofs.Passing.{Passes, none_head, passes}
 use Rattle.lawful_files.proofs.SentLists.{AreOctets, event_options, limit_some}
 use Rattle.runs_are_lawful.proofs.ShortNames.{names_short}
@@ -69,7 +70,7 @@ stream_short image side d source destination None h options = (renamed_short d d
 stream_short image side d source destination (Some t) h options = session_short image side d source destination t h options
 
 -- a message of SNMP that is no longer than a datagram holds
-management_short : (table : Bindings) (side : Side) (d : Datagram) → is_snmp_too_long table side d ≡ false
+management_short : (table : Bindings) (side : Side) (d : Datagram) → nat_lt MOST_CARRIED (length (management_after table side d)) ≡ false
     → length (management_after table side d) ≤ 66000
 management_short table side d e = omega (arith, ltb-false 65507 (length (management_after table side d)) e)
 
@@ -101,7 +102,7 @@ kind_short live side moment d (Whole Dns) p h options =
 kind_short live side moment d (Whole Snmp) p h options =
     let table = table_after whole_rules live side moment d (Whole Snmp) in
     let message = management_after table side d in
-    let few = management_short table side d (none_head {test = (is_snmp_too_long table side d, SnmpTooLong)} {more = []} p.late) in (
+    let few = management_short table side d (none_head {test = (nat_lt MOST_CARRIED (length message), SnmpTooLong)} {more = []} p.late) in (
       renamed_short d (with_payload d message).payload (called table side (source_of d)).0 (called table side (destination_of d)).0 h.header
           (rebuilt_short d message few),
       tt,
