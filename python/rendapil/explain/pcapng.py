@@ -73,7 +73,7 @@ class Commented:
         if not event.images:
             return front + "nothing went out yet"
         said = f"{front}{ends} became {ways(event.images[0])}"
-        if may_speak(event.datagram) or any(map(may_speak, event.images)):
+        if may_speak(event.images[0]):  # as the frame does: no port changes, and of fragments the image is whole
             said += "".join(changed_lines(event))
         if self._scan and self._scan.latest:
             said += "".join(f"\n! {one.application}: {one.words}" for one in self._scan.latest)

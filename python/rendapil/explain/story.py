@@ -160,10 +160,13 @@ class Story:
             raise ValueError(f"event {number}: {names[side]} has no frame left")
         if moment != max(frame.moment, self.last):
             raise ValueError(f"event {number}: the frame of {names[side]} has another stamp")
-        went = list(islice(sent if count < 16 else limited(sent), count)) if count else []
+        if count == 1 and (one := next(sent, None)):  # as most frames
+            went, images = [one], [datagram_of(one[2], one[1])]
+        else:
+            went = list(islice(sent if count < 16 else limited(sent), count)) if count else []
+            images = [datagram_of(one[2], one[1]) for one in went]
         if len(went) < count:
             raise ValueError(f"event {number}: {names[3 - side]} has no frame left")
-        images = [datagram_of(one[2], one[1]) for one in went]
         if b"" in images:
             raise ValueError(f"event {number}: {names[3 - side]} has a frame that no gateway sends")
         datagram = datagram_of(frame[2], frame[1])
