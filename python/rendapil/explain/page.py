@@ -15,7 +15,7 @@ from rendapil.frames import Verdict
 from rendapil.numbers import SIDES
 from rendapil.pages import STYLE, page_by, part_of
 from rendapil.payloads.applications import BREAKS, UNSURE
-from rendapil.payloads.kept import MAYBE
+from rendapil.payloads.kept import LIKELY, MAYBE
 from rendapil.payloads.scan import Scan, Told, plural, summary_of, told_rows
 
 HERE = Path(__file__).resolve().parent
@@ -150,8 +150,10 @@ class Page:
         unsure = [row for row in payloads if row.weight == UNSURE and row.sure != MAYBE]
         if breaking:
             names = ", ".join(f"{row.application} ({plural(row.frames, 'frame')})" for row in breaking[:5])
+            likely = sum(row.sure == LIKELY for row in breaking)
+            will = "will break" if not likely else "will likely break" if likely == len(breaking) else f"will break ({likely} of them likely)"
             said.append(
-                f"What passed isn't all that works: {plural(len(breaking), 'application')} will break, since the gateway leaves addresses alone or refuses the protocol: {names}."
+                f"What passed isn't all that works: {plural(len(breaking), 'application')} {will}, since the gateway leaves addresses alone or refuses the protocol: {names}."
             )
         else:
             said.append("No known application was found that breaks by addresses in its payloads.")
