@@ -3,7 +3,7 @@ import re
 from functools import lru_cache
 
 from rendapil.numbers import TCP, UDP
-from rendapil.payloads.further import FURTHER, SAID
+from rendapil.payloads.further import BEGINNINGS, FURTHER
 from rendapil.payloads.weights import BREAKS, COPES, HIDDEN, MEMBERS, ROUTERS, TELLS, UNSURE, Application
 
 __all__ = ["BREAKS", "COPES", "HIDDEN", "MEMBERS", "TELLS", "UNSURE", "Application"]
@@ -213,7 +213,7 @@ SIGNATURES = [
     ("lists of game servers", re.compile(rb"\xff{4}(?:getservers|\x66\n)")),
     ("Gopher", re.compile(rb"[0-9ghIi][^\t\r\n]{0,200}\t[^\t\r\n]{0,300}\t[^\t\r\n]{1,100}\t\d{1,5}\r\n")),
 ]
-SIGNATURES += [(name, re.compile(pattern)) for name, pattern in SAID]
+SIGNATURES += [(name, re.compile(pattern)) for name, pattern in BEGINNINGS]
 PROGRAMS = {100000: "portmap", 100003: "NFS", 100005: "NFS mounts", 100004: "NIS", 100007: "NIS", 100009: "NIS", 600100069: "NIS"} | {
     program: "GlusterFS" for program in (1238433, 1238463, 1298437, 14398633, 34123456)
 }

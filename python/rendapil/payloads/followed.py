@@ -21,7 +21,7 @@ one has to be: for an application that is known to tell addresses only, and for 
 
 SCHEME = re.compile(rb"([A-Za-z][\w+.-]{1,24}):/{2,3}(?:[^\s/@\"'<>]{1,60}@)?\[?$")
 PORT = re.compile(rb"\]?(?:[:#$]|['\"]?\s?[,:]\s?['\"]?|\$port\$|['\"]?\s*,\s*['\"]?\w{0,12}[pP]ort['\"]?\s*[:=]\s*['\"]?)(\d{1,5})(?![\d.])")
-SAID = re.compile(
+PROSE = re.compile(
     rb"(?:[A-Za-z]{2,}[ ,:]+){2}\W{0,2}$|\d\d:\d\d:\d\d|^[A-Za-z-]*(?:Host|Via|From|For|IP|Client|Peer|Remote|Source|Agent|Received)\s*:", re.I
 )
 PAIR = re.compile(rb"\d\s*(?:->|<->|=>|<-|<=>)\s*$")
@@ -46,7 +46,7 @@ def form_of(payload: bytes, one: Find, role: str, ends: Ends) -> Field | None:
     if one.form != TEXT or b"\0" in payload[one.at : one.end]:
         return None
     before, behind = line_before(payload, one)[-90:], payload[one.end : one.end + 40]
-    if SAID.search(before) or PAIR.search(before) or ARROW.match(behind):
+    if PROSE.search(before) or PAIR.search(before) or ARROW.match(behind):
         return None
     port = PORT.match(behind)
     number = int(port[1]) if port else 0

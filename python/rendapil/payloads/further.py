@@ -2,7 +2,7 @@
 told by the rules of `followed`."""
 from rendapil.payloads.weights import BREAKS, HIDDEN, MEMBERS, ROUTERS, TELLS, UNSURE, Application
 
-BY_NAME = "names in place of addresses"
+NAMES = "names in place of addresses"
 IN_MESSAGES = "addresses in its messages"
 GENERAL = "ask who runs it, and test it through the gateway"
 # fmt: off
@@ -47,7 +47,7 @@ FURTHER = [
     Application("Akka", (2551, 2552, 25520), (), BREAKS, "names of actors hold the addresses of their systems", "canonical.hostname by name"),
     Application("Mesos", (5050, 5051), (), UNSURE, "libprocess tells where answers go", "--advertise_ip, or a cluster in one realm"),
     Application(".NET remoting", (), (), BREAKS, "references to objects have URIs of their server", "machineName by name"),
-    Application("Jini", (4160,), (4160,), BREAKS, "lookup locators tell addresses", BY_NAME),
+    Application("Jini", (4160,), (4160,), BREAKS, "lookup locators tell addresses", NAMES),
     Application("GroupWise", (1677,), (), BREAKS, "a post office redirects to an address", "servers by name"),
     Application("Notes", (1352,), (), TELLS, "names of servers", "nothing, or names"),
     Application("RPyC", (), (18811,), BREAKS, "the registry tells the addresses of services", "services by configuration, under the alias"),
@@ -78,7 +78,7 @@ FURTHER = [
     Application("MiNet", (6800, 6801), (), BREAKS, "messages tell where media goes", "a border gateway between the realms"),
     Application("NOE", (), (32640,), BREAKS, "messages tell where media goes", "phones and their server in one realm"),
     Application("SAP announcements", (), (9875,), BREAKS, "SDP tells where streams go", "streams by configuration"),
-    Application("RTMP", (1935,), (), TELLS, "tcUrl names the server, and a rejection may redirect", BY_NAME),
+    Application("RTMP", (1935,), (), TELLS, "tcUrl names the server, and a rejection may redirect", NAMES),
     Application("MMS streams", (1755,), (1755,), BREAKS, "the client tells where the stream goes", "streams inside the connection, or over HTTP"),
     Application("SlimProto", (3483,), (3483,), BREAKS, "the server tells players where a stream is", "players and their server in one realm"),
     Application("Snapcast", (1704, 1705), (), TELLS, "the status tells the addresses of clients", "nothing"),
@@ -88,7 +88,7 @@ FURTHER = [
     Application("MythTV", (6543,), (), BREAKS, "the master tells the addresses of backends", "BackendServerAddr by name"),
     Application("Dante", (4440, 4455), (4440, 4455), BREAKS, "devices tell each other's addresses", "devices in one realm"),
     Application("Art-Net", (), (6454,), BREAKS, "ArtPollReply tells a node's address", "nodes by configuration, under the alias"),
-    Application("OSCAR", (5190,), (), BREAKS, "the server redirects to an address, and clients meet by address", BY_NAME),
+    Application("OSCAR", (5190,), (), BREAKS, "the server redirects to an address, and clients meet by address", NAMES),
     # Desktops and virtual machines.
     Application("VNC", (5900, 5901, 5902), (), TELLS, "the title may name the host", "nothing"),
     Application("SPICE", (), (), TELLS, "migration tells the next host", "migration by name"),
@@ -124,7 +124,7 @@ FURTHER = [
     Application("ICAP", (1344,), (), TELLS, "X-Client-IP", "nothing"),
     Application("NNTP", (119,), (), TELLS, "NNTP-Posting-Host", "nothing"),
     Application("Sieve", (4190,), (), TELLS, "a referral tells another server", "referrals by name"),
-    Application("MUPDATE", (3905,), (), BREAKS, "locations of mailboxes are hosts", BY_NAME),
+    Application("MUPDATE", (3905,), (), BREAKS, "locations of mailboxes are hosts", NAMES),
     Application("Dovecot director", (), (), BREAKS, "directors tell each other's addresses", "directors in one realm"),
     Application("WHOIS", (43, 4321), (), TELLS, "answers tell hosts", "nothing"),
     Application("Tor", (9030,), (), TELLS, "descriptors tell the addresses of relays", "relays and their clients in one realm"),
@@ -139,7 +139,7 @@ FURTHER = [
     Application("Minecraft", (25565,), (), TELLS, "the server's name as the client calls it", "nothing"),
 ]
 # fmt: on
-SAID = [
+BEGINNINGS = [
     ("WebRTC", rb"(?s:.{0,400})\"sdp\"\s*:\s*\"v=0"),
     ("DB2", rb"\x00(?s:.)\xd0[\x01\x41]\x00\x01\x00(?s:.)\x10\x41"),
     ("SAP", rb"(?s:.{4})(?:\*\*MESSAGE\*\*|NI_ROUTE\x00)"),
