@@ -120,8 +120,8 @@ longest-new starts name count place is some long =
 
 pub longest-ends : (starts : List Start) (name : List ℕ) (count : ℕ) (place : Option ℕ) → IsLongest starts name count place → (count < 1)
     ⊎ (length name < 1) → EndsAt starts name place
-longest-ends starts name zero place is way = is.ends
-longest-ends starts [] (suc count) place is way = subst (λ (o : Option ℕ). EndsAt starts [] o) (sym (is.some 0 (omega arith) refl)) refl
+longest-ends starts name zero place is short = is.ends
+longest-ends starts [] (suc count) place is short = subst (λ (o : Option ℕ). EndsAt starts [] o) (sym (is.some 0 (omega arith) refl)) refl
 longest-ends starts (x ∷ name) (suc count) place is (inl lt) = absurd (omega (arith, lt))
 longest-ends starts (x ∷ name) (suc count) place is (inr lt) = absurd (omega (arith, lt))
 
@@ -199,7 +199,7 @@ closing-ends starts edge left limit later is end le = record {
 closing-near : (starts : List Start) (edge left later : List ℕ) (limit end : ℕ) → Closing starts edge left limit → found starts left ≡ None
     → limit < 16384 → ((later ≡ edge) × (end < 16384)) ⊎ ((later ≡ left) × (16384 ≤ end))
     → Closing (starts ++ record { place = limit; octets = left } ∷ []) later (behind left) end
-closing-near starts edge left later limit end is absent near way =
+closing-near starts edge left later limit end is absent near which =
     let s : Start = record { place = limit; octets = left } in
     let none : edge ≡ [] = is.near near in
     let new = kept-new starts s absent in
@@ -207,7 +207,7 @@ closing-near starts edge left later limit end is absent near way =
       closed = λ o kept.
           elim (kept-push starts s o absent kept) [
             | inl same ↦
-                elim way [
+                elim which [
                   | inl on ↦ inr (inr (ap behind same, on.1))
                   | inr over ↦ inl (same ∙ sym over.0)
                 ]
@@ -221,12 +221,12 @@ closing-near starts edge left later limit end is absent near way =
                       ]
                 ]
           ];
-      kept = elim way [
+      kept = elim which [
         | inl on ↦ inl (on.0 ∙ none)
         | inr over ↦ inr (subst (λ (x : List ℕ). IsKept (starts ++ s ∷ []) x) (sym over.0) new)
       ];
       near = λ lt.
-          elim way [
+          elim which [
             | inl on ↦ on.0 ∙ none
             | inr over ↦ absurd (omega (arith, lt, over.1))
           ];

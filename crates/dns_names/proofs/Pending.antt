@@ -10,7 +10,7 @@ use Rattle.dns_names.specs.declared.ending.Edge.{Edge}
 use Rattle.dns_names.specs.declared.met.MetSuffix.{MetSuffix}
 use Rattle.dns_names.specs.declared.met.MetSuffixes.{MetSuffixes}
 use Rattle.dns_names.specs.Inside.Longest.{IsClosed, IsEdge}
-use Rattle.dns_names.specs.Inside.Met.{IsRow, AreRows}
+use Rattle.dns_names.specs.Inside.Met.{IsMet, AreMet}
 use Rattle.dns_names.proofs.Kept.{IsFresh-later, IsNowhere, after-last, after-more, after-near, found-last, found-more, found-push, found-with_start, label-behind, near_later, near_push, new-front, own-after, own-last, same-key, same-some}
 use Rattle.dns_names.proofs.Longest.{Closing, behind-shorter, ends-after}
 
@@ -266,13 +266,13 @@ pub record IsPut (old new : List (Suffix × ℕ)) (rest : List ℕ) (place limit
 module _ (known more : List Start) (old new : List (Suffix × ℕ)) (edge rest : List ℕ) (place limit : ℕ) (is_end : Bool) (end : Option ℕ)
     (r : Remembers (key_of (key_at is_end limit end) rest) rest place old new) (pending : IsPending old rest place)
     (closing : Closing (starts_in old) edge rest place) (absent : found (starts_in old) rest ≡ None) (some : 1 ≤ length rest) (on : place < limit)
-    (grew : starts_in old ≡ known ++ more) (way : GoesOn known old rest is_end end) where
+    (grew : starts_in old ≡ known ++ more) (goes_on : GoesOn known old rest is_end end) where
   none : place < 16384 → place_in old (key_of (key_at is_end limit end) rest) ≡ None
   none near = by_end is_end refl
     where
       by_end : (b : Bool) → is_end ≡ b → place_in old (key_of (key_at b limit end) rest) ≡ None
       by_end false e = absent-next old rest place limit end pending on near
-      by_end true e = by_place end (way.ends e)
+      by_end true e = by_place end (goes_on.ends e)
         where
           by_place : (o : Option ℕ) → EndsAt known (behind rest) o → place_in old (key_of (key_at true limit o) rest) ≡ None
           by_place None ends = absent-ends old rest place 65535 pending some absent (end-old known more old rest None grew ends)
@@ -291,8 +291,8 @@ module _ (known more : List Start) (old new : List (Suffix × ℕ)) (edge rest :
   key_stands = by_end is_end refl
     where
       by_end : (b : Bool) → is_end ≡ b → KeyIs (known_with new (behind rest) limit) (behind rest) limit (key_at b limit end)
-      by_end false e = key-next known more old new rest place limit grew put_starts end some absent (way.new e) (way.long e)
-      by_end true e = by_place end (way.ends e)
+      by_end false e = key-next known more old new rest place limit grew put_starts end some absent (goes_on.new e) (goes_on.long e)
+      by_end true e = by_place end (goes_on.ends e)
         where
           by_place : (o : Option ℕ) → EndsAt known (behind rest) o
               → KeyIs (known_with new (behind rest) limit) (behind rest) limit (key_at true limit o)
@@ -339,15 +339,15 @@ edge-later starts more new edge is (inl none) = inl none
 edge-later starts more new edge is (inr kept) = inr (ap (λ (x : List Start). found x edge.octets.now) is
     ∙ found-more starts more edge.octets.now edge.place kept)
 
-row-later : (starts more new : List Start) (row : MetSuffix) → new ≡ starts ++ more → IsRow starts row → IsRow new row
-row-later starts more new row is (inl none) = inl none
-row-later starts more new row is (inr kept) = inr (ap (λ (x : List Start). found x row.octets.now) is
-    ∙ found-more starts more row.octets.now row.place kept)
+met-one-later : (starts more new : List Start) (suffix : MetSuffix) → new ≡ starts ++ more → IsMet starts suffix → IsMet new suffix
+met-one-later starts more new suffix is (inl none) = inl none
+met-one-later starts more new suffix is (inr kept) = inr (ap (λ (x : List Start). found x suffix.octets.now) is
+    ∙ found-more starts more suffix.octets.now suffix.place kept)
 
-pub rows-later : (starts more new : List Start) (rows : MetSuffixes) → new ≡ starts ++ more → AreRows starts rows → AreRows new rows
-rows-later starts more new rows is all = record {
-  short = row-later starts more new rows.short is all.short;
-  long = λ k d lt. row-later starts more new (slice_index_or rows.long.items k d) is (all.long k d lt);
+pub met-later : (starts more new : List Start) (met : MetSuffixes) → new ≡ starts ++ more → AreMet starts met → AreMet new met
+met-later starts more new met is all = record {
+  short = met-one-later starts more new met.short is all.short;
+  long = λ k d lt. met-one-later starts more new (slice_index_or met.long.items k d) is (all.long k d lt);
 }
 
 -- octets that are no name are written

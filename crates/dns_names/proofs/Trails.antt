@@ -8,17 +8,17 @@ use Rattle.dns_names.specs.declared.known.Known.{Known}
 use Rattle.dns_names.proofs.Reading.{at_label, at_pointer, at_nothing, same_name}
 use Rattle.dns_names.proofs.Walking.{piece_at-label}
 
--- a name starts at or before the place where the way is
-pub way-start : (m : List ℕ) (first : ℕ) (path : List ℕ) (start place : ℕ) (octets : List ℕ) → Trail m first path start place octets → start ≤ place
-way-start m first [] start place octets w = omega (arith, w.0, w.1)
-way-start m first (at ∷ path) start place octets w =
-    let low : w.0 ≤ at = way-start m first path w.0 at w.1 w.2 in
+-- a name starts at or before the place where the trail is
+pub trail-start : (m : List ℕ) (first : ℕ) (path : List ℕ) (start place : ℕ) (octets : List ℕ) → Trail m first path start place octets → start ≤ place
+trail-start m first [] start place octets w = omega (arith, w.0, w.1)
+trail-start m first (at ∷ path) start place octets w =
+    let low : w.0 ≤ at = trail-start m first path w.0 at w.1 w.2 in
     elim w.3 [
       | inl l ↦ omega (arith, low, l.2, l.3)
       | inr p ↦ omega (arith, p.3, p.4)
     ]
 
--- how a name that begins where the way does goes on at its end
+-- how a name that begins where the trail does goes on at its end
 pub record Goes (m : List ℕ) (labels : List (List ℕ)) (start place : ℕ) (octets : List ℕ) : Type 0 where
   pub rest : List (List ℕ)
   pub end : ℕ
@@ -44,11 +44,11 @@ goes-pointer m labels from at before start place octets to g e s p o =
     let next = at_pointer m from at g.rest g.end to g.stands e in
     rw (s, p, o) (record { rest = g.rest; end = next.2.0; stands = next.2.1; is = g.is })
 
-pub way-only : (m : List ℕ) (first : ℕ) (path : List ℕ) (start place : ℕ) (octets : List ℕ) (labels : List (List ℕ)) (after : ℕ)
+pub trail-only : (m : List ℕ) (first : ℕ) (path : List ℕ) (start place : ℕ) (octets : List ℕ) (labels : List (List ℕ)) (after : ℕ)
     → Trail m first path start place octets → Stands m first first labels after → Goes m labels start place octets
-way-only m first [] start place octets labels after w s = rw (w.0, w.1, w.2) (record { rest = labels; end = after; stands = s; is = refl })
-way-only m first (at ∷ path) start place octets labels after w s =
-    let g = way-only m first path w.0 at w.1 labels after w.2 s in
+trail-only m first [] start place octets labels after w s = rw (w.0, w.1, w.2) (record { rest = labels; end = after; stands = s; is = refl })
+trail-only m first (at ∷ path) start place octets labels after w s =
+    let g = trail-only m first path w.0 at w.1 labels after w.2 s in
     elim w.3 [
       | inl l ↦ goes-label m labels w.0 at w.1 start place octets l.0 g l.1 l.2 l.3 l.4
       | inr p ↦ goes-pointer m labels w.0 at w.1 start place octets p.0 g p.1 p.3 p.4 p.5
@@ -77,7 +77,7 @@ are-known-more m kept more known a = record {
   each = λ place lt some. let k = a.each place lt some in (k.0, says-more m kept more place (known_there known place) k.0 k.1);
 }
 
--- ---- where a way ends
+-- ---- where a trail ends
 
 pub says-long : (m kept : List ℕ) (place : ℕ) (k : Known) (labels : List (List ℕ)) → Says m kept place k labels → length (spelled labels) ≡ k.count
 says-long m kept place k labels s =
@@ -99,7 +99,7 @@ pub none-high : (m kept : List ℕ) (first : ℕ) (path : List ℕ) (start place
     → Knows m kept place k → start < k.start
     → (labels : List (List ℕ)) (after : ℕ) → NameAt m first labels after → ⊥
 none-high m kept first path start place octets k w know high labels after n =
-    let g = way-only m first path start place octets labels after w n.stands in
+    let g = trail-only m first path start place octets labels after w n.stands in
     let low = know.1.only start g.rest g.end g.stands in
     omega (arith, low, high)
 
@@ -108,7 +108,7 @@ pub none-long : (m kept : List ℕ) (first : ℕ) (path : List ℕ) (start place
     → Knows m kept place k → 254 < length octets + k.count
     → (labels : List (List ℕ)) (after : ℕ) → NameAt m first labels after → ⊥
 none-long m kept first path start place octets k w know long labels after n =
-    let g = way-only m first path start place octets labels after w n.stands in
+    let g = trail-only m first path start place octets labels after w n.stands in
     let low = know.1.only start g.rest g.end g.stands in
     let same = same_name m start place know.0 g.rest k.after g.end (know.1.stands start low) g.stands in
     omega (
@@ -124,7 +124,7 @@ pub none-label : (m : List ℕ) (first : ℕ) (path : List ℕ) (start place : �
     → piece_at m place ≡ Label l → 254 < length octets + 1 + length l
     → (labels : List (List ℕ)) (after : ℕ) → NameAt m first labels after → ⊥
 none-label m first path start place octets l w e long labels after n =
-    let g = way-only m first path start place octets labels after w n.stands in
+    let g = trail-only m first path start place octets labels after w n.stands in
     let next = at_label m start place g.rest g.end l g.stands e in
     omega (
       arith,
@@ -139,34 +139,34 @@ pub none-up : (m : List ℕ) (first : ℕ) (path : List ℕ) (start place : ℕ)
     → piece_at m place ≡ Pointer to → start ≤ to
     → (labels : List (List ℕ)) (after : ℕ) → NameAt m first labels after → ⊥
 none-up m first path start place octets to w e le labels after n =
-    let g = way-only m first path start place octets labels after w n.stands in
+    let g = trail-only m first path start place octets labels after w n.stands in
     let next = at_pointer m start place g.rest g.end to g.stands e in omega (arith, next.0, le)
 
 pub none-nothing : (m : List ℕ) (first : ℕ) (path : List ℕ) (start place : ℕ) (octets : List ℕ) → Trail m first path start place octets
     → piece_at m place ≡ Nothing
     → (labels : List (List ℕ)) (after : ℕ) → NameAt m first labels after → ⊥
 none-nothing m first path start place octets w e labels after n =
-    let g = way-only m first path start place octets labels after w n.stands in at_nothing m start place g.rest g.end g.stands e
+    let g = trail-only m first path start place octets labels after w n.stands in at_nothing m start place g.rest g.end g.stands e
 
 -- ---- one step more
 
 pub reverse-push : (path : List ℕ) (at : ℕ) → reverse (path ++ at ∷ []) ≡ at ∷ reverse path
 reverse-push path at = reverse-append path (at ∷ [])
 
-pub way-label : (m : List ℕ) (first : ℕ) (path : List ℕ) (start at : ℕ) (octets l : List ℕ) → Trail m first (reverse path) start at octets
+pub trail-label : (m : List ℕ) (first : ℕ) (path : List ℕ) (start at : ℕ) (octets l : List ℕ) → Trail m first (reverse path) start at octets
     → piece_at m at ≡ Label l → Trail m first (reverse (path ++ at ∷ [])) start (at + 1 + length l) (octets ++ length l ∷ l)
-way-label m first path start at octets l w e = rw (reverse-push path at) (start, octets, w, inl (l, e, refl, refl, refl))
+trail-label m first path start at octets l w e = rw (reverse-push path at) (start, octets, w, inl (l, e, refl, refl, refl))
 
-pub way-pointer : (m : List ℕ) (first : ℕ) (path : List ℕ) (start at : ℕ) (octets : List ℕ) (to : ℕ) → Trail m first (reverse path) start at octets
+pub trail-pointer : (m : List ℕ) (first : ℕ) (path : List ℕ) (start at : ℕ) (octets : List ℕ) (to : ℕ) → Trail m first (reverse path) start at octets
     → piece_at m at ≡ Pointer to → to < start → Trail m first (reverse (path ++ at ∷ [])) to to octets
-way-pointer m first path start at octets to w e lt = rw (reverse-push path at) (start, octets, w, inr (to, e, lt, refl, refl, refl))
+trail-pointer m first path start at octets to w e lt = rw (reverse-push path at) (start, octets, w, inr (to, e, lt, refl, refl, refl))
 
 -- ---- one step back
 
--- the way before its last step
+-- the trail before its last step
 last : (m kept : List ℕ) (first : ℕ) (path : List ℕ) (at : ℕ) (k : Known) (leads : Leads m kept first (path ++ at ∷ []) k)
     → Trail m first (at ∷ reverse path) leads.start leads.place leads.octets
-last m kept first path at k leads = subst (λ (p : List ℕ). Trail m first p leads.start leads.place leads.octets) (reverse-push path at) leads.way
+last m kept first path at k leads = subst (λ (p : List ℕ). Trail m first p leads.start leads.place leads.octets) (reverse-push path at) leads.trail
 
 -- a label behind which a name is known: its octets are kept in front of that name's
 pub record Behind (m kept : List ℕ) (k : Known) (l : List ℕ) : Type 0 where
@@ -209,7 +209,7 @@ says-pointer m kept at to end k labels e s low = record {
   only = λ start ls after x. let g = at_pointer m start at ls after to x e in omega (arith, g.0);
 }
 
--- the octets in front of a label of the way, and its own, stand before those of the labels behind it
+-- the octets in front of a label of the trail, and its own, stand before those of the labels behind it
 spelled-back : (kept base octets before l : List ℕ) (labels : List (List ℕ)) → kept ≡ base ++ (octets ++ spelled labels)
     → octets ≡ before ++ length l ∷ l → kept ≡ base ++ (before ++ spelled (l ∷ labels))
 spelled-back kept base octets before l labels is o =
@@ -247,7 +247,7 @@ pub below-back : (m kept : List ℕ) (first : ℕ) (path : List ℕ) (at : ℕ) 
     → piece_at m at ≡ Pointer to → to < at
 below-back m kept first path at k to leads e =
     let w = last m kept first path at k leads in
-    let low = way-start m first (reverse path) w.0 at w.1 w.2 in
+    let low = trail-start m first (reverse path) w.0 at w.1 w.2 in
     elim w.3 [
       | inl s ↦ absurd (let q : Label s.0 ≡ Pointer to = sym s.1 ∙ e in cc)
       | inr s ↦ let same : s.0 ≡ to = (let q : Pointer s.0 ≡ Pointer to = sym s.1 ∙ e in cc) in omega (arith, low, s.2, same)
@@ -269,7 +269,7 @@ back-label m kept first path from at before k l labels base w e says low short i
         start = from;
         place = at;
         octets = before;
-        way = w;
+        trail = w;
         labels = l ∷ labels;
         says = s;
         low = low;
@@ -291,7 +291,7 @@ back-pointer m kept first path from at before k to labels w e lt says low short 
         start = from;
         place = at;
         octets = before;
-        way = w;
+        trail = w;
         labels = labels;
         says = s;
         low = omega (arith, lt);
@@ -323,7 +323,7 @@ stepped-back m kept first path at k leads =
 
 -- ---- the whole name
 
--- a way leads to where it joins, once the octets of the whole name are kept
+-- a trail leads to where it joins, once the octets of the whole name are kept
 pub joined : (m old kept new : List ℕ) (first : ℕ) (path : List ℕ) (k : Known) (more : List ℕ) → Joins m old kept first path k → new ≡ kept ++ more
     → (1 ≤ length kept - length old → more ≡ octets_of kept k) → Leads m new first path k
 joined m old kept new first path k more j is some =
@@ -333,7 +333,7 @@ joined m old kept new first path k more j is some =
       start = j.start;
       place = j.place;
       octets = j.octets;
-      way = j.way;
+      trail = j.trail;
       labels = j.knows.0;
       says = rw is (says-more m kept more j.place k j.knows.0 says);
       low = j.low;
@@ -354,8 +354,8 @@ stands-labels m _ _ _ _ (AtPointer start place to ls after e lt s) = stands-labe
 
 pub here : (m kept : List ℕ) (first : ℕ) (k : Known) → Leads m kept first [] k → Here m kept first k
 here m kept first k leads =
-    let start : leads.start ≡ first = leads.way.0 in
-    let says : Says m kept first k leads.labels = subst (λ (p : ℕ). Says m kept p k leads.labels) leads.way.1 leads.says in
+    let start : leads.start ≡ first = leads.trail.0 in
+    let says : Says m kept first k leads.labels = subst (λ (p : ℕ). Says m kept p k leads.labels) leads.trail.1 leads.says in
     let stands = says.stands first (omega (arith, leads.low, start)) in
     let short : length (spelled leads.labels) ≤ 254 = omega (arith, says-long m kept first k leads.labels says, leads.short) in
     record {

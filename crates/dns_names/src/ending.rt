@@ -2,7 +2,7 @@
 ghost use Rattle.std.specs.Prelude.{◌≡◌, ◌≤◌, ℕ, length};
 ghost use Rattle.dns_names.specs.Inside.Ends.{key_of};
 ghost use Rattle.dns_names.specs.Inside.Longest.{IsClosed, IsEdge, IsLongest};
-ghost use Rattle.dns_names.specs.Inside.Met.{AreRows};
+ghost use Rattle.dns_names.specs.Inside.Met.{AreMet};
 ghost use Rattle.dns_names.specs.Inside.Writers.{starts_in, place_in, FindsBy};
 
 use crate::met::{MetSuffixes, Steps};
@@ -31,17 +31,17 @@ fn place_of<'a>(places: &Targets<'a>, octets: &'a [u8], behind: u16) -> Option<u
 pub(crate) fn longest<'a>(
     places: &Targets<'a>,
     edge: Edge<'a>,
-    rows: &mut MetSuffixes<'a>,
+    met: &mut MetSuffixes<'a>,
     name: &'a [u8],
     steps: Steps<'_>,
 ) -> (usize, Option<u16>)
     requires finds { FindsBy (starts_in places.now) places.now }
     requires edge { IsEdge (starts_in places.now) edge }
     requires closed { (limit : ℕ) × IsClosed (starts_in places.now) edge.octets.now limit }
-    requires rows { AreRows (starts_in places.now) rows.old }
+    requires met { AreMet (starts_in places.now) met.old }
     ensures longest { IsLongest (starts_in places.now) name.now result.0 result.1 }
     ensures few { result.0 ≤ length name.now }
-    ensures rows { AreRows (starts_in places.now) rows.new }
+    ensures met { AreMet (starts_in places.now) met.new }
 {
     if name.is_empty() {
         return (0, None);
@@ -50,14 +50,14 @@ pub(crate) fn longest<'a>(
         return (name.len(), None);
     }
     let first = steps.first();
-    if let Some(place) = rows.place_of(first, name) {
+    if let Some(place) = met.place_of(first, name) {
         return (0, Some(place));
     }
-    let next = steps.behind(rows);
-    let (count, place) = longest(places, edge, rows, behind_label(name), next);
+    let next = steps.behind(met);
+    let (count, place) = longest(places, edge, met, behind_label(name), next);
     if count > 0 {
         if name == edge.octets {
-            rows.keep(first, name, edge.place as usize, next.first());
+            met.keep(first, name, edge.place as usize, next.first());
             return (0, Some(edge.place));
         }
         return (count + 1, place);
@@ -65,6 +65,6 @@ pub(crate) fn longest<'a>(
     let Some(here) = place_of(places, name, place.unwrap_or(ROOT)) else {
         return (1, place);
     };
-    rows.keep(first, name, here as usize, next.first());
+    met.keep(first, name, here as usize, next.first());
     (0, Some(here))
 }

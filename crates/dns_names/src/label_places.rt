@@ -15,14 +15,14 @@ pub struct LabelPlaces {
 }
 
 impl LabelPlaces {
-    /// The way of a name of a short message, or of a copy.
+    /// The places of a name of a short message, or of a copy.
     pub(crate) fn short(alloc: Global) -> LabelPlaces {
         LabelPlaces {
             new: Vec::new(alloc),
             joined: SHORT,
         }
     }
-    /// The way of a name that goes out for this one: only its first label has a place.
+    /// The places of a name that goes out for this one: only its first label has a place.
     pub(crate) fn of_image(&self, alloc: Global) -> LabelPlaces {
         let joined = match self.new.last() {
             Some(place) => *place,

@@ -79,12 +79,12 @@ fn note(labels: &mut Vec<u16>, message: &[u8], place: u16) {
     }
 }
 
-/// What is known at a place from which a name is read. The same is put down for the places on its way.
+/// What is known at a place from which a name is read. The same is put down for the places on its trail.
 fn find(
     message: &[u8],
     memo: &mut Memo,
     place: usize,
-    way: &mut LabelPlaces,
+    places: &mut LabelPlaces,
 ) -> Result<Known, NameStop>
     requires { IsMemo message.now memo.old }
     ensures memo { IsMemo message.now memo.new }
@@ -96,13 +96,13 @@ fn find(
 {
     let base = memo.kept.len();
     let mut known = walk(message, &memo.known, &mut memo.path, &mut memo.kept, place)?;
-    way.joined = known.label;
+    places.joined = known.label;
     keep_end(&mut memo.kept, &mut memo.room, base, known)?;
     let end = memo.kept.len();
     'back: while let Some(at) = memo.path.pop() {
         known = before(message, at as usize, known, end);
         put(&mut memo.known, at as usize, known);
-        note(&mut way.new, message, at);
+        note(&mut places.new, message, at);
     }
     Ok(known)
 }
@@ -122,9 +122,9 @@ pub(crate) fn read_on(
         → NameAt message.now place labels after
         → ⊥ }
 {
-    let mut way = LabelPlaces::short(alloc);
-    let known = find(message, memo, place, &mut way)?;
+    let mut places = LabelPlaces::short(alloc);
+    let known = find(message, memo, place, &mut places)?;
     let end = known.from + known.count as usize;
     let octets = Vec::from_slice(alloc, &memo.kept[known.from..end])?;
-    Ok((Name { octets, way }, known.after as usize))
+    Ok((Name { octets, places }, known.after as usize))
 }

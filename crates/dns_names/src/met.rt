@@ -1,7 +1,7 @@
 // What was found for the labels of a message, by their places in it.
 ghost use Rattle.std.specs.Prelude.{◌≡◌, ◌≤◌, ◌<◌, ℕ, List, Some, length, IfSome};
 ghost use Rattle.dns_names.specs.Spelling.{Start, found};
-ghost use Rattle.dns_names.specs.Inside.Met.{IsRow, AreRows};
+ghost use Rattle.dns_names.specs.Inside.Met.{IsMet, AreMet};
 
 use crate::POINTED;
 use crate::label_places::{LabelPlaces, NOWHERE, SHORT};
@@ -16,8 +16,8 @@ pub struct MetSuffix<'a> {
     pub(crate) next: u16,
 }
 
-fn row_without_place<'a>(next: u16) -> MetSuffix<'a>
-    ensures { (starts : List Start) → IsRow starts result }
+fn without_place<'a>(next: u16) -> MetSuffix<'a>
+    ensures { (starts : List Start) → IsMet starts result }
 {
     MetSuffix {
         octets: &[],
@@ -26,13 +26,14 @@ fn row_without_place<'a>(next: u16) -> MetSuffix<'a>
     }
 }
 
-fn no_row<'a>() -> MetSuffix<'a>
-    ensures { (starts : List Start) → IsRow starts result }
+fn no_suffix<'a>() -> MetSuffix<'a>
+    ensures { (starts : List Start) → IsMet starts result }
 {
-    row_without_place(NOWHERE)
+    without_place(NOWHERE)
 }
 
-/// MetSuffixes by the places of labels. All names of a short message, and all copies, have `SHORT` in place of these.
+/// The suffixes that were met, by the places of their first labels. All names of a short message, and all copies, have `SHORT` in
+/// place of these.
 #[derive(Drop)]
 pub struct MetSuffixes<'a> {
     pub(crate) short: MetSuffix<'a>,
@@ -42,16 +43,16 @@ pub struct MetSuffixes<'a> {
 impl<'a> MetSuffixes<'a> {
     /// Nothing was met yet.
     pub(crate) fn new(alloc: Global) -> MetSuffixes<'a>
-        ensures { (starts : List Start) → AreRows starts result }
+        ensures { (starts : List Start) → AreMet starts result }
     {
         MetSuffixes {
-            short: no_row(),
+            short: no_suffix(),
             long: Vec::new(alloc),
         }
     }
 
     fn at(&self, origin: u16) -> Option<MetSuffix<'a>>
-        ensures { (starts : List Start) → AreRows starts self.now → IfSome result (IsRow starts) }
+        ensures { (starts : List Start) → AreMet starts self.now → IfSome result (IsMet starts) }
     {
         if origin == SHORT {
             return Some(self.short);
@@ -62,47 +63,47 @@ impl<'a> MetSuffixes<'a> {
     /// Where a suffix stands written, if it was kept for the place of its first label.
     pub(crate) fn place_of(&self, origin: u16, octets: &[u8]) -> Option<u16>
         ensures { (starts : List Start)
-            → AreRows starts self.now
+            → AreMet starts self.now
             → 1 ≤ length octets.now
             → IfSome result (λ place. found starts octets.now ≡ Some place) }
     {
-        let row = self.at(origin)?;
-        if row.octets == octets {
-            Some(row.place)
+        let suffix = self.at(origin)?;
+        if suffix.octets == octets {
+            Some(suffix.place)
         } else {
             None
         }
     }
 
-    fn set(&mut self, origin: u16, row: MetSuffix<'a>)
+    fn set(&mut self, origin: u16, suffix: MetSuffix<'a>)
         ensures { (starts : List Start)
-            → AreRows starts self.old
-            → IsRow starts row.entry
-            → AreRows starts self.new }
+            → AreMet starts self.old
+            → IsMet starts suffix.entry
+            → AreMet starts self.new }
     {
         if origin == SHORT {
-            self.short = row;
+            self.short = suffix;
             return;
         }
         let origin = origin as usize;
         if origin >= POINTED {
             return;
         }
-        if origin >= self.long.len() && self.long.resize(origin + 1, no_row()).is_err() {
+        if origin >= self.long.len() && self.long.resize(origin + 1, no_suffix()).is_err() {
             return;
         }
-        self.long[origin] = row;
+        self.long[origin] = suffix;
     }
 
     /// Keeps where a suffix stands written, for the place of its first label. If no pointer can lead there, only the place of the next
     /// label is kept. Where memory runs out, nothing is.
     pub(crate) fn keep(&mut self, origin: u16, octets: &'a [u8], place: usize, next: u16)
         ensures { (starts : List Start)
-            → AreRows starts self.old
+            → AreMet starts self.old
             → (place < POINTED → found starts octets.now ≡ Some place)
-            → AreRows starts self.new }
+            → AreMet starts self.new }
     {
-        let row = if place < POINTED {
+        let suffix = if place < POINTED {
             let place = place as u16;
             MetSuffix {
                 octets,
@@ -110,13 +111,13 @@ impl<'a> MetSuffixes<'a> {
                 next,
             }
         } else {
-            row_without_place(next)
+            without_place(next)
         };
-        self.set(origin, row);
+        self.set(origin, suffix);
     }
 }
 
-/// A part of a name's way: the places of its labels, the last one first, and that of the label behind them.
+/// A part of a name's places: those of its labels, the last one first, and that of the label behind them.
 #[derive(Clone, Copy)]
 pub(crate) struct Steps<'w> {
     new: &'w [u16],
@@ -124,10 +125,10 @@ pub(crate) struct Steps<'w> {
 }
 
 impl<'w> Steps<'w> {
-    pub(crate) fn of(way: &'w LabelPlaces) -> Steps<'w> {
+    pub(crate) fn of(places: &'w LabelPlaces) -> Steps<'w> {
         Steps {
-            new: &way.new,
-            joined: way.joined,
+            new: &places.new,
+            joined: places.joined,
         }
     }
 
@@ -140,15 +141,15 @@ impl<'w> Steps<'w> {
     }
 
     /// The steps behind the first label.
-    pub(crate) fn behind(&self, rows: &MetSuffixes) -> Steps<'w> {
+    pub(crate) fn behind(&self, met: &MetSuffixes) -> Steps<'w> {
         if let Some((_, new)) = self.new.split_last() {
             return Steps {
                 new,
                 joined: self.joined,
             };
         }
-        let joined = match rows.at(self.joined) {
-            Some(row) => row.next,
+        let joined = match met.at(self.joined) {
+            Some(suffix) => suffix.next,
             None => NOWHERE,
         };
         Steps { new: &[], joined }

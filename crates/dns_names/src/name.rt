@@ -16,7 +16,7 @@ use std::marker::Model;
 #[derive(Drop)]
 pub struct Name {
     pub(crate) octets: Vec<u8>,
-    pub(crate) way: LabelPlaces,
+    pub(crate) places: LabelPlaces,
 }
 
 impl Model for Name {
@@ -47,9 +47,9 @@ impl Name {
         ensures same { IfOk result (λ name. name ≡ self.now) }
         ensures name { IsName self.now }
     {
-        let way = LabelPlaces::short(alloc);
+        let places = LabelPlaces::short(alloc);
         let octets = Vec::from_slice(alloc, &self.octets)?;
-        Ok(Name { octets, way })
+        Ok(Name { octets, places })
     }
 }
 
@@ -68,7 +68,7 @@ pub(crate) fn name_of(
         → NameAt message.now place labels after
         → ⊥ }
 {
-    let way = LabelPlaces::short(alloc);
+    let places = LabelPlaces::short(alloc);
     let mut octets = Vec::with_capacity(alloc, ROOM)?;
     let mut start = place;
     let mut at = place;
@@ -80,7 +80,7 @@ pub(crate) fn name_of(
             PieceAt::Root => {
                 octets.extend_from_slice(&message[from..at])?;
                 let end = after.unwrap_or(at + 1);
-                return Ok((Name { octets, way }, end));
+                return Ok((Name { octets, places }, end));
             }
             PieceAt::Label(label) => {
                 let next = at + 1 + label.len();

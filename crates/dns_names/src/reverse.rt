@@ -127,10 +127,10 @@ pub fn reverse_of(alloc: Global, address: Addr, old: &Name) -> Result<Name, OutO
     // It is a name of that address.
     ensures again { IfOk result (λ name. full_reverse name ≡ Some address.0) }
 {
-    let way = old.way.of_image(alloc);
+    let places = old.places.of_image(alloc);
     let mut octets = Vec::with_capacity(alloc, ROOM)?;
     put_numbers(&mut octets, address.0)?;
     let zone = behind_label(behind_label(behind_label(behind_label(old.octets()))));
     octets.extend_from_slice(zone)?;
-    Ok(Name { octets, way })
+    Ok(Name { octets, places })
 }

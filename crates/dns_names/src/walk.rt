@@ -1,4 +1,4 @@
-// The way through a message to a place from which a name was read before.
+// The trail through a message to a place from which a name was read before.
 ghost use Rattle.std.specs.Prelude.{◌≡◌, ◌≤◌, ◌<◌, ◌+◌, ◌-◌, ◌⊎◌, true, false, ◌++◌, ℕ, List, length, take, drop, IfOk, OnOk, Err};
 ghost use Rattle.dns_names.specs.Names.{NameAt};
 ghost use Rattle.dns_names.specs.Inside.Memo.{AreKnown, Joins};
@@ -37,7 +37,7 @@ fn keep(kept: &mut Vec<u8>, message: &[u8], from: usize, at: usize) -> Result<()
 }
 
 /// Goes from a place to one where a name is known, or to the root octet. It puts down the places of the labels and pointers on
-/// the way, and keeps the labels' octets.
+/// the trail, and keeps the labels' octets.
 pub(crate) fn walk(
     message: &[u8],
     known: &[Known],

@@ -3,7 +3,7 @@ ghost use Rattle.std.specs.Prelude.{◌≡◌, ◌+◌, ◌<◌, ◌≤◌, ◌+
 ghost use Rattle.dns_names.specs.Inside.Ends.{key_of};
 ghost use Rattle.dns_names.specs.Names.{IsSpelled};
 ghost use Rattle.dns_names.specs.Inside.Names.{labels_in};
-ghost use Rattle.dns_names.specs.Inside.Met.{AreRows};
+ghost use Rattle.dns_names.specs.Inside.Met.{AreMet};
 ghost use Rattle.dns_names.specs.Spelling.{Start, found, pointer, spell};
 ghost use Rattle.dns_names.specs.Inside.Longest.{IsClosed, IsEdge, edge_by, ending};
 ghost use Rattle.dns_names.specs.Inside.Writers.{starts_in, place_in, key_at, GrewBy, IsFresh, IsIndex, Remembers};
@@ -106,7 +106,7 @@ fn put_end(out: &mut Vec<u8>, place: Option<u16>) -> Result<(), AllocError>
 fn put_labels<'a>(
     places: &mut Targets<'a>,
     edge: Edge<'a>,
-    rows: &mut MetSuffixes<'a>,
+    met: &mut MetSuffixes<'a>,
     name: &'a [u8],
     steps: Steps<'_>,
     out: &mut Vec<u8>,
@@ -117,7 +117,7 @@ fn put_labels<'a>(
     requires edge { IsEdge (starts_in places.old) edge }
     requires closed { IsClosed (starts_in places.old) edge.octets.now
         (length out.old.items) }
-    requires rows { AreRows (starts_in places.old) rows.old }
+    requires met { AreMet (starts_in places.old) met.old }
     ensures octets { OnOk result (out.new.items
         ≡ out.old.items
         ++ (spell (starts_in places.old) (length out.old.items)
@@ -133,9 +133,9 @@ fn put_labels<'a>(
     ensures edge { IfOk result (λ edge. IsEdge (starts_in places.new) edge) }
     ensures closed { IfOk result (λ edge. IsClosed (starts_in places.new)
         edge.octets.now (length out.new.items)) }
-    ensures rows { AreRows (starts_in places.new) rows.new }
+    ensures met { AreMet (starts_in places.new) met.new }
 {
-    let (count, end) = longest(places, edge, rows, name, steps);
+    let (count, end) = longest(places, edge, met, name, steps);
     let mut edge = edge;
     let mut rest = name;
     let mut left = count;
@@ -147,8 +147,8 @@ fn put_labels<'a>(
         out.extend_from_slice(label)?;
         let behind = key_at(is_end(left, after), out.len(), end);
         remember(places, rest, behind, place)?;
-        let next = steps.behind(rows);
-        rows.keep(steps.first(), rest, place, next.first());
+        let next = steps.behind(met);
+        met.keep(steps.first(), rest, place, next.first());
         edge = edge_after(edge, rest, place, out.len());
         steps = next;
         rest = after;
@@ -165,7 +165,7 @@ pub struct NameWriter<'a> {
     places: Targets<'a>,
     // the suffix behind whose first label the rest may not stand in `places` (`IsClosed`); None after a name that failed
     edge: Option<Edge<'a>>,
-    rows: MetSuffixes<'a>,
+    met: MetSuffixes<'a>,
 }
 
 impl<'a> Model for NameWriter<'a> {
@@ -174,14 +174,14 @@ impl<'a> Model for NameWriter<'a> {
 
     ghost Value = { Text };
 
-    ghost use Rattle.dns_names.specs.Inside.Met.{AreRows};
+    ghost use Rattle.dns_names.specs.Inside.Met.{AreMet};
     ghost use Rattle.dns_names.specs.Inside.Writers.{starts_in, IsFresh, IsIndex};
     ghost use Rattle.dns_names.specs.Inside.Longest.{IsClosed, IsEdge};
 
     ghost view = { λ w. record { octets = w.octets.items; starts = starts_in w.places } };
 
     ghost invariant = { λ w. IsIndex w.places (length w.octets.items)
-        × AreRows (starts_in w.places) w.rows
+        × AreMet (starts_in w.places) w.met
         × IfSome w.edge (λ edge. IsFresh w.places (length w.octets.items)
         × IsEdge (starts_in w.places) edge
         × IsClosed (starts_in w.places) edge.octets.now
@@ -207,7 +207,7 @@ impl<'a> NameWriter<'a> {
                 octets: &[],
                 place: 0,
             }),
-            rows: MetSuffixes::new(alloc),
+            met: MetSuffixes::new(alloc),
         })
     }
 
@@ -239,11 +239,11 @@ impl<'a> NameWriter<'a> {
         let Some(edge) = self.edge.take() else {
             return Err(OutOfMemory);
         };
-        let steps = Steps::of(&name.way);
+        let steps = Steps::of(&name.places);
         let edge = put_labels(
             &mut self.places,
             edge,
-            &mut self.rows,
+            &mut self.met,
             octets,
             steps,
             &mut self.octets,

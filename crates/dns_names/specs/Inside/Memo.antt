@@ -1,4 +1,4 @@
--- What was read from the places of a message on, and the way to such a place.
+-- What was read from the places of a message on, and the trail to such a place.
 use Rattle.std.specs.Prelude.{◌≡◌, ℕ, ◌+◌, ◌-◌, ◌<◌, ◌≤◌, ◌⊎◌, List, [], ◌∷◌, ◌++◌, length, reverse, take, drop, slice_index_or}
 use Rattle.dns_names.specs.Names.{Piece, Root, Label, Pointer, Nothing, piece_at, Stands, NameAt, IsName, spelled}
 use Rattle.dns_names.specs.declared.known.Known.{Known}
@@ -51,36 +51,36 @@ pub record IsMemo (message : List ℕ) (memo : Memo) : Type 0 where
   pub few : length message ≤ LONGEST_MESSAGE
   pub known : AreKnown message memo.kept.items memo.known.items
 
--- how a way goes on from a place: behind a label, or where a pointer leads
+-- how a trail goes on from a place: behind a label, or where a pointer leads
 abbrev pub Step : List ℕ → ℕ → ℕ → List ℕ → ℕ → ℕ → List ℕ → Type 0
 Step message from at before start place octets =
     ((l : List ℕ) × (piece_at message at ≡ Label l) × (start ≡ from) × (place ≡ at + 1 + length l) × (octets ≡ before ++ length l ∷ l))
     ⊎ ((to : ℕ) × (piece_at message at ≡ Pointer to) × (to < from) × (start ≡ to) × (place ≡ to) × (octets ≡ before))
 
--- The way from a place over these, the last first: where it is then, in a name with this start, and the octets of its labels.
+-- The trail from a place over these, the last first: where it is then, in a name with this start, and the octets of its labels.
 abbrev pub Trail : List ℕ → ℕ → List ℕ → ℕ → ℕ → List ℕ → Type 0
 Trail message first [] start place octets = (start ≡ first) × (place ≡ first) × (octets ≡ [])
 Trail message first (at ∷ path) start place octets = (from : ℕ) × (before : List ℕ) × Trail message first path from at before
     × Step message from at before start place octets
 
--- The way over these places leads to where a name is known that may end the one that begins at its first place.
--- The octets of the labels on the way are kept behind those that were kept before.
+-- The trail over these places leads to where a name is known that may end the one that begins at its first place.
+-- The octets of the labels on the trail are kept behind those that were kept before.
 pub record Joins (message kept new : List ℕ) (first : ℕ) (path : List ℕ) (k : Known) : Type 0 where
   pub start : ℕ
   pub place : ℕ
   pub octets : List ℕ
-  pub way : Trail message first (reverse path) start place octets
+  pub trail : Trail message first (reverse path) start place octets
   pub added : new ≡ kept ++ octets
   pub knows : Knows message kept place k
   pub low : k.start ≤ start
   pub short : length octets + k.count ≤ 254
 
--- The same, where the octets of the whole name end what is kept, if a label is on the way.
+-- The same, where the octets of the whole name end what is kept, if a label is on the trail.
 pub record Leads (message kept : List ℕ) (first : ℕ) (path : List ℕ) (k : Known) : Type 0 where
   pub start : ℕ
   pub place : ℕ
   pub octets : List ℕ
-  pub way : Trail message first (reverse path) start place octets
+  pub trail : Trail message first (reverse path) start place octets
   pub labels : List (List ℕ)
   pub says : Says message kept place k labels
   pub low : k.start ≤ start

@@ -5,9 +5,9 @@ use Rattle.dns_names.specs.declared.met.MetSuffixes.{MetSuffixes}
 use Rattle.dns_names.specs.Spelling.{Start, found}
 
 -- its octets stand written at its place, the lowest one, or it has none
-abbrev pub IsRow : List Start → MetSuffix → Type 0
-IsRow starts row = (row.octets.now ≡ []) ⊎ (found starts row.octets.now ≡ Some row.place)
+abbrev pub IsMet : List Start → MetSuffix → Type 0
+IsMet starts suffix = (suffix.octets.now ≡ []) ⊎ (found starts suffix.octets.now ≡ Some suffix.place)
 
-pub record AreRows (starts : List Start) (rows : MetSuffixes) : Type 0 where
-  pub short : IsRow starts rows.short
-  pub long : All (IsRow starts) rows.long.items
+pub record AreMet (starts : List Start) (met : MetSuffixes) : Type 0 where
+  pub short : IsMet starts met.short
+  pub long : All (IsMet starts) met.long.items

@@ -41,15 +41,15 @@ returns-clause-longest n c =
     longest-here starts c.args.name.now c.in-Some-place_of.here some
     (sym (c.requires.finds c.args.name.now c.unwrap_or.result some after) ∙ sym c.place_of-2.ensures ∙ c.in-Some-place_of.is)
 
-pub returns-clause-rows : goal.returns-clause-rows
-returns-clause-rows n c =
+pub returns-clause-met : goal.returns-clause-met
+returns-clause-met n c =
     let some : 1 ≤ length c.args.name.now = search rules in
     let starts = starts_in c.args.places.now in
     let rest = rest-ends starts c.behind_label.result.now c.args.name.now c.longest-count.result.0 c.longest-count.result.1
     c.behind_label.ensures (omega (arith, c.if-count-gt0.false)) c.longest-count.ensures.longest in
     let after : after_in starts (behind c.args.name.now) ≡ Some c.unwrap_or.result =
     ends-after starts (behind c.args.name.now) c.longest-count.result.1 rest.ends ∙ ap Some (sym c.unwrap_or.ensures) in
-    c.keep-2.ensures starts c.longest-count.ensures.rows (λ near. sym (c.requires.finds c.args.name.now c.unwrap_or.result some after)
+    c.keep-2.ensures starts c.longest-count.ensures.met (λ near. sym (c.requires.finds c.args.name.now c.unwrap_or.result some after)
     ∙ sym c.place_of-2.ensures ∙ c.in-Some-place_of.is)
 
 pub returns-in_default-place_of-clause-longest : goal.returns-in_default-place_of-clause-longest

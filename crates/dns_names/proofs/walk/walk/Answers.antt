@@ -2,7 +2,7 @@ use Rattle.std.proofs.Common.{◌≡◌, ℕ, ◌+◌, ◌≤◌, ◌<◌, ◌++
 use Rattle.dns_names.specs.Prelude.{Label, Pointer, piece_at, Knows, Joins}
 use Rattle.dns_names.specs.declared.known.Known.{Known}
 use Rattle.dns_names.proofs.Walking.{run, run-label, run-none}
-use Rattle.dns_names.proofs.Trails.{none-high, none-long, none-label, none-up, none-nothing, says-root, way-label, way-pointer}
+use Rattle.dns_names.proofs.Trails.{none-high, none-long, none-label, none-up, none-nothing, says-root, trail-label, trail-pointer}
 use Rattle.dns_names.proofs.walk.walk.Invariants.{OnWay}
 use Rattle.dns_names.proofs.walk.walk.Goals as goal
 
@@ -12,7 +12,7 @@ joins m old kept new first path start from at count k w is knows low short = rec
   start = start;
   place = at;
   octets = w.octets;
-  way = w.way;
+  trail = w.trail;
   added = is ∙ w.kept_are;
   knows = knows;
   low = low;
@@ -31,7 +31,7 @@ behind-label m old kept first path new start from at count l w e inside short is
     let whole : List ℕ = w.octets ++ length l ∷ l in
     rw (is, place) (record {
       octets = whole;
-      way = way-label m first path start at w.octets l w.way e;
+      trail = trail-label m first path start at w.octets l w.trail e;
       size = omega (arith, w.size, length-append w.octets (length l ∷ l));
       short = omega (arith, short);
       order = omega (arith, w.order);
@@ -48,7 +48,7 @@ at-pointer : (m old kept kept' : List ℕ) (first : ℕ) (path new : List ℕ) (
 at-pointer m old kept kept' first path new start from at count to w e lt kept_is is =
     rw is (record {
       octets = w.octets;
-      way = way-pointer m first path start at w.octets to w.way e lt;
+      trail = trail-pointer m first path start at w.octets to w.trail e lt;
       size = w.size;
       short = w.short;
       order = omega arith;
@@ -62,8 +62,8 @@ returns-then-not-may_end-clause-none c = λ _ labels after n.
     let knows = c.in-Some.ensures.known c.args.message.now c.args.kept.now.items c.requires.known in
     let i = c.pieces.invariant in
     elim (c.may_end.ensures.no c.if-not-may_end.true) [
-      | inl high ↦ none-high _ c.args.kept.now.items _ _ _ _ _ _ i.way knows high labels after n
-      | inr long ↦ none-long _ c.args.kept.now.items _ _ _ _ _ _ i.way knows (omega (arith, long, i.size)) labels after n
+      | inl high ↦ none-high _ c.args.kept.now.items _ _ _ _ _ _ i.trail knows high labels after n
+      | inr long ↦ none-long _ c.args.kept.now.items _ _ _ _ _ _ i.trail knows (omega (arith, long, i.size)) labels after n
     ]
 
 pub returns-in-Root-clause-found : goal.returns-in-Root-clause-found
@@ -73,7 +73,7 @@ returns-in-Root-clause-found c =
     (omega (arith, c.pieces.invariant.short))
 
 pub returns-then-count-label-gt254-clause-none : goal.returns-then-count-label-gt254-clause-none
-returns-then-count-label-gt254-clause-none c = λ _ labels after n. none-label _ _ _ _ _ _ c.in-Label.label.now c.pieces.invariant.way
+returns-then-count-label-gt254-clause-none c = λ _ labels after n. none-label _ _ _ _ _ _ c.in-Label.label.now c.pieces.invariant.trail
     c.in-Label.ensures.is (omega (arith, c.if-count-label-gt254.true, c.pieces.invariant.size)) labels after n
 
 pub pieces-preserved-in-Label : goal.pieces-preserved-in-Label
@@ -82,7 +82,7 @@ pieces-preserved-in-Label c =
     (omega (arith, c.if-count-label-gt254.false)) c.in_ok-push-in-Label.ensures.items
 
 pub returns-then-to-start-clause-none : goal.returns-then-to-start-clause-none
-returns-then-to-start-clause-none c = λ _ labels after n. none-up _ _ _ _ _ _ _ c.pieces.invariant.way c.in-Pointer.ensures.is
+returns-then-to-start-clause-none c = λ _ labels after n. none-up _ _ _ _ _ _ _ c.pieces.invariant.trail c.in-Pointer.ensures.is
     (omega arith) labels after n
 
 pub pieces-preserved : goal.pieces-preserved
@@ -91,4 +91,4 @@ pieces-preserved c =
     c.in_ok-push-in-Pointer.ensures.items
 
 pub returns-in-Nothing-clause-none : goal.returns-in-Nothing-clause-none
-returns-in-Nothing-clause-none c = λ _ labels after n. none-nothing _ _ _ _ _ _ c.pieces.invariant.way c.in-Nothing.ensures.is labels after n
+returns-in-Nothing-clause-none c = λ _ labels after n. none-nothing _ _ _ _ _ _ c.pieces.invariant.trail c.in-Nothing.ensures.is labels after n

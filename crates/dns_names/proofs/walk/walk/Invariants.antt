@@ -3,10 +3,10 @@ use Rattle.dns_names.specs.Prelude.{Trail}
 use Rattle.dns_names.proofs.Walking.{run}
 use Rattle.dns_names.proofs.walk.walk.Given as goal
 
--- the octets of the labels on the way, of which the last ones aren't kept yet
+-- the octets of the labels on the trail, of which the last ones aren't kept yet
 pub record OnWay (message old kept : List ℕ) (first : ℕ) (path : List ℕ) (start from at count : ℕ) : Type 0 where
   pub octets : List ℕ
-  pub way : Trail message first (reverse path) start at octets
+  pub trail : Trail message first (reverse path) start at octets
   pub size : count ≡ length octets
   pub short : count ≤ 254
   pub order : from ≤ at

@@ -3,7 +3,7 @@ use Rattle.dns_names.proofs.Kept.{ends-near, pending-first, pending-fresh, pendi
 use Rattle.dns_names.specs.declared.suffix.Suffix.{Suffix}
 use Rattle.dns_names.specs.Inside.Longest.{ending}
 use Rattle.dns_names.specs.Inside.Writers.{key_at, IsPending, Remembers}
-use Rattle.dns_names.proofs.Pending.{GoesOn, edge-later, put-found, put-label, rows-later}
+use Rattle.dns_names.proofs.Pending.{GoesOn, edge-later, put-found, put-label, met-later}
 use Rattle.dns_names.proofs.Longest.{longest-new, longest-step, longest-ends, behind-shorter, closing-first, closing-put, closing-ends, behind-is}
 use Rattle.dns_names.proofs.Putting.{Left-ends, Left-closed, Left-new, Left-within, Left-label, ending-some, grew_more, grew_none, grew_octets}
 use Rattle.dns_names.specs.Prelude.{behind, found, key_of, labels_in, with_start, IsIndex, IsLongest, starts_in}
@@ -27,7 +27,7 @@ labels-init c = (
   c.longest-count.ensures.longest,
   closing-first (starts_in c.args.places.now) c.args.edge.octets.now c.args.name.now (length c.args.out.now.items) c.requires.closed,
   c.requires.edge,
-  c.longest-count.ensures.rows,
+  c.longest-count.ensures.met,
 )
 
 pub returns-in_err-extend_from_slice-clause-index : goal.returns-in_err-extend_from_slice-clause-index
@@ -70,7 +70,7 @@ labels-preserved c =
     let now : c.len.result ≡ limit = omega (arith, c.len.ensures, c.extend_from_slice.new.self.ok.0) in
     let key_is : c.key_at-behind.result ≡ key_at c.is_end.result limit c.longest-count.result.1 =
     c.key_at-behind.ensures ∙ ap (λ (n : ℕ). key_at c.is_end.result n c.longest-count.result.1) now in
-    let way : GoesOn (starts_in c.args.places.now) c.labels.places c.labels.rest.now c.is_end.result c.longest-count.result.1 =
+    let goes_on : GoesOn (starts_in c.args.places.now) c.labels.places c.labels.rest.now c.is_end.result c.longest-count.result.1 =
     record {
       ends = λ e. longest-ends _ (behind c.labels.rest.now) (c.labels.left - 1) _ step
           (subst (λ (x : List ℕ). (c.labels.left - 1 < 1) ⊎ (length x < 1)) rest (c.is_end.ensures.ends e));
@@ -92,7 +92,7 @@ labels-preserved c =
     (length c.labels.out.items) limit c.is_end.result c.longest-count.result.1
     (subst (λ (n : ℕ). Remembers (key_of n c.labels.rest.now) c.labels.rest.now (length c.labels.out.items) c.labels.places c.remember.new.places) key_is
     (subst (λ (n : ℕ). Remembers (key_of c.key_at-behind.result c.labels.rest.now) c.labels.rest.now n c.labels.places c.remember.new.places) len
-    c.in_ok-remember.ensures.remembers)) v.1 v.4 absent some on v.2.2 way in
+    c.in_ok-remember.ensures.remembers)) v.1 v.4 absent some on v.2.2 goes_on in
     let found_now = put-found c.labels.places c.remember.new.places c.labels.rest.now (length c.labels.out.items) limit is absent in
     let found_at : c.len-place.result < 16384 → found (starts_in c.remember.new.places) c.labels.rest.now
     ≡ Some c.len-place.result = λ near. found_now (omega (arith, near, len)) ∙ ap Some (sym len) in
@@ -116,7 +116,7 @@ labels-preserved c =
             c.extend_from_slice.new.self.ok.0,
           )) (search rules) starts_at c.edge_after-edge.ensures.by rest,
       c.edge_after-edge.ensures.edge (starts_in c.remember.new.places) (edge-later _ _ _ c.labels.edge is.starts v.5) found_at,
-      c.keep.ensures (starts_in c.remember.new.places) (rows-later _ _ _ c.labels.rows is.starts v.6) found_at,
+      c.keep.ensures (starts_in c.remember.new.places) (met-later _ _ _ c.labels.met is.starts v.6) found_at,
     )
 
 pub returns-clause-octets : goal.returns-clause-octets

@@ -1,7 +1,7 @@
 use Rattle.std.proofs.Common.{length}
 use Rattle.dns_names.specs.Prelude.{labels_in, IsLongest, starts_in, GrewBy}
 use Rattle.dns_names.specs.Inside.Longest.{IsEdge}
-use Rattle.dns_names.specs.Inside.Met.{AreRows}
+use Rattle.dns_names.specs.Inside.Met.{AreMet}
 use Rattle.dns_names.specs.Inside.Writers.{IsPending}
 use Rattle.dns_names.proofs.Longest.{Closing}
 use Rattle.dns_names.proofs.Putting.{Puts}
@@ -14,7 +14,7 @@ invariant-labels l = Puts (starts_in l.fn.places) (labels_in l.name) l.fn.out.it
     × IsLongest (starts_in l.fn.places) l.rest l.left l.end
     × Closing (starts_in l.places) l.edge.octets.now l.rest (length l.out.items)
     × IsEdge (starts_in l.places) l.edge
-    × AreRows (starts_in l.places) l.rows
+    × AreMet (starts_in l.places) l.met
 
 abbrev pub decreases-labels : goal.decreases-labels
 decreases-labels l = length l.rest
